@@ -8,7 +8,7 @@ use Rattle.format.specs.declared.record.Kind.{Kind}
 use Rattle.format.specs.declared.record.Kind.the-variants as K
 use Rattle.format.specs.declared.record.Record.{Record}
 use Rattle.format.specs.declared.record.Record.the-variants.{Group, Seat, Reserve, Trainee, Wish, Bar, End}
-use Rattle.format.specs.Layout.{kind, Begins, Starts, Took}
+use Rattle.format.specs.Layout.{kind, Formed, Begins, Starts, Took}
 use Rattle.format.specs.Questions.{ByteNo}
 use Rattle.rules.specs.declared.fault.RecordFault.{RecordFault}
 use Rattle.rules.specs.declared.fault.RecordFault.the-variants.{Bytes, Misplaced, Full, Range, Repeat}
@@ -100,6 +100,7 @@ pub record Ruled (t : Content) (r : Record) : Type 0 where
 
 -- a record may follow in a section, after records with these entries
 pub record Allowed (s : Section) (t : Content) (r : Record) : Type 0 where
+  pub formed : Formed r
   pub stands : may s (kind r) ≡ true
   pub ruled : Ruled t r
 
