@@ -1,0 +1,3 @@
+// A deck that passed intake, for reading.
+mod agree;
+mod same;
