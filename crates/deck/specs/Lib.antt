@@ -1,1 +1,5 @@
 pub mod Alike
+pub mod Facts
+pub mod Lawful
+pub mod Contents
+pub mod Binding

@@ -12,12 +12,10 @@ use Rattle.intake.specs.declared.counts.Counts.{Counts}
 use Rattle.intake.specs.declared.entry.Entry.{Entry}
 use Rattle.intake.specs.declared.entry.Entry.the-variants as E
 use Rattle.intake.specs.Rows.{pushed}
-use Rattle.intake.specs.Fillings.{padded, blanks, Held, Holds, Within, Place-for, firsts, counted, written}
+use Rattle.intake.specs.Firsts.{firsts}
+use Rattle.intake.specs.Fillings.{padded, blanks, Held, Holds, Place-for, counted, written}
 
 module _ {A : Type 0} (d : A) (xs : List A) (n : ℕ) (t : List A) (h : Held d xs n t) where
-  pub held-fits : n ≤ length t
-  held-fits = let e = ap length (h .filled) in let l = length-append xs (replicate (length t - length xs) d) in let c = h .count in omega arith
-
   pub held-firsts : take n t ≡ xs
   held-firsts = ap (λ (k : ℕ). take k t) (h .count) ∙ ap (λ (u : List A). take (length xs) u) (h .filled) ∙ take-append-seam xs (replicate (length t - length xs) d)
 
@@ -47,16 +45,6 @@ holds-more x c t (E.Trainee y) h p = record { groups = h .groups; seats = h .sea
 holds-more x c t (E.Contract y) h p = record { groups = h .groups; seats = h .seats; reserves = h .reserves; trainees = h .trainees; contracts = held-more _ _ _ _ (h .contracts) y p; bars = h .bars }
 holds-more x c t (E.Bar y) h p = record { groups = h .groups; seats = h .seats; reserves = h .reserves; trainees = h .trainees; contracts = h .contracts; bars = held-more _ _ _ _ (h .bars) y p }
 holds-more x c t (E.End n) h p = h
-
-pub holds-within : (x : Content) (c : Counts) (t : Content) → Holds x c t → Within c t
-holds-within x c t h = record {
-  groups = held-fits _ _ _ _ (h .groups);
-  seats = held-fits _ _ _ _ (h .seats);
-  reserves = held-fits _ _ _ _ (h .reserves);
-  trainees = held-fits _ _ _ _ (h .trainees);
-  contracts = held-fits _ _ _ _ (h .contracts);
-  bars = held-fits _ _ _ _ (h .bars);
-}
 
 -- the first entries are those that are held
 pub holds-firsts : (x : Content) (c : Counts) (t : Content) → Holds x c t → firsts c t ≡ x

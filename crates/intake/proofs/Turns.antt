@@ -21,7 +21,8 @@ use Rattle.intake.specs.declared.fault.DeckFault.{DeckFault}
 use Rattle.intake.specs.declared.fault.DeckFault.the-variants.{Records, SmallTable, TooLong, WrongCount, Trailing, OtherTables}
 use Rattle.intake.specs.Refusals.{refusal}
 use Rattle.intake.specs.Rows.{Row, _▸_, encodes, sectionOf, listed, entryOf, pushed, Passes, Spells, Led, Entered}
-use Rattle.intake.specs.Fillings.{Roomy, Holds, Place-for, firsts, counted, written}
+use Rattle.intake.specs.Fillings.{Roomy, Holds, Place-for, counted, written}
+use Rattle.intake.specs.Firsts.{firsts}
 use Rattle.intake.specs.Book.{Reached, Due, wrong-count, trailing, EndNo, Fills}
 use Rattle.intake.proofs.Rows.{few, led}
 use Rattle.intake.proofs.Tables.{holds-firsts, holds-more}

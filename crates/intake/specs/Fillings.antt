@@ -3,7 +3,7 @@ use Prim.Native.Nat.{ℕ, _+_, _-_, _<_, _≤_}
 use mathlib.Core.Bool.{false}
 use mathlib.Core.List.{List, _++_}
 use mathlib.Core.Path.{_≡_}
-use lib.ListN.{length, replicate, take, set}
+use lib.ListN.{length, replicate, set}
 use Rattle.rules.specs.declared.table.Group.{Group}
 use Rattle.rules.specs.declared.table.Seat.{Seat}
 use Rattle.rules.specs.declared.table.Reservation.{Reservation}
@@ -60,26 +60,6 @@ pub record Holds (x : Content) (c : Counts) (t : Content) : Type 0 where
   pub trainees : Held zeroTrainee (x .trainees) (c .trainees) (t .trainees)
   pub contracts : Held zeroContract (x .contracts) (c .wishes) (t .contracts)
   pub bars : Held zeroBarring (x .bars) (c .bars) (t .bars)
-
--- the first entries of the tables, as many as were counted
-abbrev pub firsts : Counts → Content → Content
-firsts c t = record {
-  groups = take (c .groups) (t .groups);
-  seats = take (c .seats) (t .seats);
-  reserves = take (c .reserves) (t .reserves);
-  trainees = take (c .trainees) (t .trainees);
-  contracts = take (c .wishes) (t .contracts);
-  bars = take (c .bars) (t .bars);
-}
-
--- the counts lie within the tables
-pub record Within (c : Counts) (t : Content) : Type 0 where
-  pub groups : c .groups ≤ length (t .groups)
-  pub seats : c .seats ≤ length (t .seats)
-  pub reserves : c .reserves ≤ length (t .reserves)
-  pub trainees : c .trainees ≤ length (t .trainees)
-  pub contracts : c .wishes ≤ length (t .contracts)
-  pub bars : c .bars ≤ length (t .bars)
 
 -- the table that an entry goes to has a place for it
 abbrev pub Place-for : Counts → Content → Entry → Type 0

@@ -1,4 +1,5 @@
 pub mod Refusals
 pub mod Rows
+pub mod Firsts
 pub mod Fillings
 pub mod Book

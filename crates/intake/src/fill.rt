@@ -1,7 +1,7 @@
 // Reading a deck's records in turn into blank tables.
 ghost use Prim.Native.Nat.{ℕ, _+_, _<_, _≤_};
 ghost use Rattle.intake.specs.Book.{Due, EndNo, Fills};
-ghost use Rattle.intake.specs.Fillings.{Roomy, Within, blanks, firsts, tables};
+ghost use Rattle.intake.specs.Fillings.{Roomy, blanks, tables};
 ghost use Rattle.intake.specs.Refusals.{refusal};
 ghost use Rattle.intake.specs.Rows.{Entered, Led};
 ghost use Rattle.rules.specs.Contents.{contentOf};
@@ -29,37 +29,6 @@ use rules::table::Trainee;
 
 // The most bytes that a deck has: the most records of each kind, and E.
 pub const LONGEST: usize = 15363;
-
-// The entries so far.
-fn past_of<'a>(
-    had: Counts,
-    groups: &'a [Group],
-    seats: &'a [Seat],
-    reserves: &'a [Reservation],
-    trainees: &'a [Trainee],
-    contracts: &'a [Contract],
-    bars: &'a [Barring],
-) -> Tables<'a>
-    requires { ⌜ Within had (tables (now groups) (now seats) (now reserves) (now trainees) (now contracts) (now bars)) ⌝ }
-    ensures { λ r. ⌜ contentOf r ≡ firsts had (tables (now (groups .entry)) (now (seats .entry)) (now (reserves .entry)) (now (trainees .entry)) (now (contracts .entry)) (now (bars .entry))) ⌝ }
-{
-    let Counts {
-        groups: g,
-        seats: s,
-        reserves: r,
-        trainees: t,
-        wishes: w,
-        bars: b,
-    } = had;
-    Tables {
-        groups: &groups[0..g],
-        seats: &seats[0..s],
-        reserves: &reserves[0..r],
-        trainees: &trainees[0..t],
-        contracts: &contracts[0..w],
-        bars: &bars[0..b],
-    }
-}
 
 // The entry of the next record, where it may stand here and keeps the rules, and the section after it.
 fn next_entry(
@@ -127,7 +96,14 @@ pub fn fill(
     };
     loop {
         let place = reader.place();
-        let past = past_of(had, groups, seats, reserves, trainees, contracts, bars);
+        let past = had.firsts(Tables {
+            groups,
+            seats,
+            reserves,
+            trainees,
+            contracts,
+            bars,
+        });
         let (entry, next) = next_entry(&mut reader, section, past)?;
         if let Entry::End(count) = entry {
             return close(count, had, place, reader.place(), bytes.len());

@@ -21,20 +21,20 @@ next-entry-requires c κs =
     let l = ap length (st .same) in
     record {
       place = omega (arith, c .loop-entry .reader .inside);
-      few = few-past st (contentOf (c .past-of-past .result)) (c .past-of-past .ensures);
-      led = led-past st (contentOf (c .past-of-past .result)) (c .past-of-past .ensures);
+      few = few-past st (contentOf (c .firsts-past .result)) (c .firsts-past .ensures);
+      led = led-past st (contentOf (c .firsts-past .result)) (c .firsts-past .ensures);
     }
 
 pub returns-in-Break-entry : need.returns-in-Break-entry
 returns-in-Break-entry c =
     let p = err-from-errBy (c .from-residual .result) (c .from-residual .ensures .1) in
-    rw (p .1, p .2) (refused (c .loop-entry .inv .1) (contentOf (c .past-of-past .result)) (c .past-of-past .ensures) (omega arith) (c .in-Break-entry .field-0 .0) (c .in-Break-entry .ensures tt .cases))
+    rw (p .1, p .2) (refused (c .loop-entry .inv .1) (contentOf (c .firsts-past .result)) (c .firsts-past .ensures) (omega arith) (c .in-Break-entry .field-0 .0) (c .in-Break-entry .ensures tt .cases))
 
 pub returns-in-End : need.returns-in-End
 returns-in-End c =
     let st = c .loop-entry .inv .1 in
-    let x = contentOf (c .past-of-past .result) in
-    let e = c .past-of-past .ensures in
+    let x = contentOf (c .firsts-past .result) in
+    let e = c .firsts-past .ensures in
     let h = c .in-Continue-entry .ensures tt .cases in
     let short : length (c .args .bytes .now) ≤ 15363 = omega arith in
     let l = ap length (c .in-Continue-entry .ensures tt .same ∙ st .same) in
@@ -47,7 +47,7 @@ returns-in-End c =
 pub loop-entry-again : need.loop-entry-again
 loop-entry-again c =
     let st = c .loop-entry .inv .1 in
-    let a = again st (contentOf (c .past-of-past .result)) (c .past-of-past .ensures) (c .next-entry .last .reader .bytes .now) (c .next-entry .last .reader .place) (c .in-Continue-entry .entry) (c .in-Continue-entry .next)
+    let a = again st (contentOf (c .firsts-past .result)) (c .firsts-past .ensures) (c .next-entry .last .reader .bytes .now) (c .next-entry .last .reader .place) (c .in-Continue-entry .entry) (c .in-Continue-entry .next)
     (c .in-Continue-entry .ensures tt .same) (c .in-Continue-entry .ensures tt .cases) (c .in-rest .not-End) in (
       a .0,
       subst (λ (t : Content). State (c .args .bytes .now) (c .next-entry .last .reader .bytes .now) (c .next-entry .last .reader .place) (c .in-Continue-entry .next) (c .store-had .result) t (a .0)) (sym (c .store-had .ensures .entries))

@@ -1,0 +1,13 @@
+// Trials of intake and bind: decks written by hand, each with what the rules say of it.
+#[cfg(test)]
+mod accepted;
+#[cfg(test)]
+mod build;
+#[cfg(test)]
+mod case;
+#[cfg(test)]
+mod faults;
+#[cfg(test)]
+mod fronts;
+#[cfg(test)]
+mod samples;
