@@ -1,0 +1,3 @@
+// What the program prints of a deck, as bytes.
+mod printer;
+pub mod report;
