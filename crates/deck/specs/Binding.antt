@@ -4,12 +4,11 @@ use mathlib.Core.List.{List}
 use mathlib.Core.Path.{_≡_}
 use Rattle.std.specs.declared.result.Result.{Result}
 use Rattle.std.specs.declared.result.Result.the-variants.{Ok, Err}
-use Rattle.format.specs.declared.fault.Layer.the-variants as L
 use Rattle.rules.specs.Contents.{Content}
 use Rattle.intake.specs.declared.counts.Counts.{Counts}
 use Rattle.intake.specs.declared.fault.DeckFault.{DeckFault}
 use Rattle.intake.specs.Firsts.{firsts}
-use Rattle.intake.specs.Refusals.{refusal}
+use Rattle.intake.specs.Refusals.{byDeck, refusal}
 use Rattle.deck.specs.declared.deck.Deck.{Deck}
 use Rattle.deck.specs.Alike.{Fits}
 use Rattle.deck.specs.Contents.{bytesOf, dataOf}
@@ -17,4 +16,4 @@ use Rattle.deck.specs.Contents.{bytesOf, dataOf}
 -- the deck of these bytes and of the entries that are counted; else 12, and the deck d stays
 abbrev pub Bound : List ℕ → Counts → Content → Deck → Deck → Result Unit DeckFault → Type 0
 Bound all c t d d′ (Ok _) = Fits all c t × (bytesOf d′ ≡ all) × (dataOf d′ ≡ firsts c t)
-Bound all c t d d′ (Err f) = (Fits all c t → ⊥) × (refusal f ≡ record { number = 12; place = 0; layer = L.Deck }) × (d′ ≡ d)
+Bound all c t d d′ (Err f) = (Fits all c t → ⊥) × (refusal f ≡ byDeck 12 0) × (d′ ≡ d)

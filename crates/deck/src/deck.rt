@@ -69,10 +69,21 @@ impl<'a> Deck<'a> {
     // The deck of E with number 0 alone.
     pub fn empty() -> Deck<'a>
         ensures bytes { λ r. ⌜ now (r .bytes) ≡ 69 ∷ 0 ∷ 0 ∷ [] ⌝ }
-        ensures entries { λ r. ⌜ tables (now (r .groups)) (now (r .seats)) (now (r .reserves)) (now (r .trainees)) (now (r .contracts)) (now (r .bars)) ≡ nothing ⌝ }
+        ensures entries { λ r. ⌜ tables (now (r .groups)) (now (r .seats)) (now (r .reserves)) (now (r .trainees)) (now (r .contracts)) (now (r .bars))
+            ≡ nothing ⌝ }
+    {
+        Deck::alone(b"E\0\0")
+    }
+
+    // The deck of these bytes, which are those of E with number 0.
+    fn alone(bytes: &'a [u8]) -> Deck<'a>
+        requires { ⌜ now bytes ≡ 69 ∷ 0 ∷ 0 ∷ [] ⌝ }
+        ensures bytes { λ r. ⌜ now (r .bytes) ≡ now (bytes .entry) ⌝ }
+        ensures entries { λ r. ⌜ tables (now (r .groups)) (now (r .seats)) (now (r .reserves)) (now (r .trainees)) (now (r .contracts)) (now (r .bars))
+            ≡ nothing ⌝ }
     {
         Deck::made(
-            b"E\0\0",
+            bytes,
             Tables {
                 groups: &[],
                 seats: &[],
@@ -88,7 +99,8 @@ impl<'a> Deck<'a> {
     pub(crate) fn made(bytes: &'a [u8], entries: Tables<'a>) -> Deck<'a>
         requires { ⌜ Deals (now bytes) (contentOf entries) ⌝ }
         ensures bytes { λ r. ⌜ now (r .bytes) ≡ now (bytes .entry) ⌝ }
-        ensures entries { λ r. ⌜ tables (now (r .groups)) (now (r .seats)) (now (r .reserves)) (now (r .trainees)) (now (r .contracts)) (now (r .bars)) ≡ contentOf (entries .entry) ⌝ }
+        ensures entries { λ r. ⌜ tables (now (r .groups)) (now (r .seats)) (now (r .reserves)) (now (r .trainees)) (now (r .contracts)) (now (r .bars))
+            ≡ contentOf (entries .entry) ⌝ }
     {
         let Tables {
             groups,

@@ -86,3 +86,8 @@ pub record Fronts (rest : List ℕ) (r : Record) : Type 0 where
 pub record Took (all : List ℕ) (p q : ℕ) (r : Record) : Type 0 where
   pub starts : Starts (drop p all) r (drop q all)
   pub moved : q ≡ p + size (kind r)
+
+-- from place p on, all begins with a record, whole
+pub record Ahead (all : List ℕ) (p : ℕ) (r : Record) : Type 0 where
+  pub took : Took all p (p + size (kind r)) r
+  pub inside : p + size (kind r) ≤ length all

@@ -1,5 +1,5 @@
 // A fault of the byte layer, and what any fault is told by: number, place and layer.
-ghost use Rattle.format.specs.Refusals.{byteRefusal};
+ghost use Rattle.format.specs.Refusals.{byBytes, byteRefusal};
 ghost use mathlib.Core.Path.{_≡_};
 
 #[derive(Clone, Copy, PartialEq, Eq, Debug)]
@@ -23,26 +23,25 @@ pub struct Refusal {
     pub layer: Layer,
 }
 
+// A refusal by this layer.
+fn at(number: u8, place: usize) -> Refusal
+    ensures { λ r. ⌜ r ≡ byBytes number place ⌝ }
+{
+    Refusal {
+        number,
+        place,
+        layer: Layer::Bytes,
+    }
+}
+
 impl ByteFault {
     pub fn refusal(&self) -> Refusal
         ensures { λ r. ⌜ r ≡ byteRefusal (now (self .entry)) ⌝ }
     {
         match self {
-            ByteFault::NoByte { place } => Refusal {
-                number: 3,
-                place: *place,
-                layer: Layer::Bytes,
-            },
-            ByteFault::NoKind { place } => Refusal {
-                number: 4,
-                place: *place,
-                layer: Layer::Bytes,
-            },
-            ByteFault::Short { place } => Refusal {
-                number: 6,
-                place: *place,
-                layer: Layer::Bytes,
-            },
+            ByteFault::NoByte { place } => at(3, *place),
+            ByteFault::NoKind { place } => at(4, *place),
+            ByteFault::Short { place } => at(6, *place),
         }
     }
 }

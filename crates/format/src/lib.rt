@@ -1,5 +1,5 @@
 // The records of a deck: their kinds, their bytes, and a reader that takes them off one after another.
-pub mod decode;
+mod decode;
 pub mod fault;
 pub mod reader;
 pub mod record;

@@ -2,7 +2,7 @@
 ghost use Rattle.format.specs.Layout.{kind as kindOf, size as sizeOf};
 ghost use mathlib.Core.Path.{_≡_};
 
-#[derive(Clone, Copy, PartialEq, Eq, Debug)]
+#[derive(Clone, Copy)]
 pub enum Kind {
     Group,
     Seat,
@@ -14,7 +14,7 @@ pub enum Kind {
 }
 
 // The fields as the bytes give them; nothing is judged yet.
-#[derive(Clone, Copy, Debug)]
+#[derive(Clone, Copy)]
 pub enum Record {
     Group {
         parent: u8,

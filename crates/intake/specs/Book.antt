@@ -21,7 +21,7 @@ use Rattle.rules.specs.Rules.{Room, InRange, Fresh}
 use Rattle.intake.specs.declared.counts.Counts.{Counts}
 use Rattle.intake.specs.declared.fault.DeckFault.{DeckFault}
 use Rattle.intake.specs.declared.fault.DeckFault.the-variants.{Records, SmallTable, TooLong, WrongCount, Trailing, OtherTables}
-use Rattle.intake.specs.Refusals.{refusal}
+use Rattle.intake.specs.Refusals.{byDeck, refusal}
 use Rattle.intake.specs.Rows.{Row, _▸_, encodes, sectionOf, listed, Passes, Spells}
 use Rattle.intake.specs.Fillings.{Roomy, Holds, blanks}
 
@@ -76,13 +76,13 @@ pub record Reached (all : List ℕ) (rs : Row) (rest : List ℕ) : Type 0 where
 
 -- the refusals that are due to a deck: it is too long; a record has a no; E gives a wrong number; bytes follow E
 pub data Due (all : List ℕ) : Refusal → Type 0 where
-  too-long : 15363 < length all → Due all (record { number = 2; place = 0; layer = L.Deck })
+  too-long : 15363 < length all → Due all (byDeck 2 0)
   at-record : (rs : Row) (rest : List ℕ) (q : Question) → Reached all rs rest → (sectionOf rs ≡ Closed → ⊥) → FirstNo q rs rest →
       Due all (record { number = number q; place = length (encodes rs); layer = layer q })
   wrong-count : (rs : Row) (n : ℕ) (rest : List ℕ) → Reached all (rs ▸ R.End n) rest → (n ≡ length (listed rs .contracts) → ⊥) →
-      Due all (record { number = 10; place = length (encodes rs); layer = L.Deck })
+      Due all (byDeck 10 (length (encodes rs)))
   trailing : (rs : Row) (n : ℕ) (rest : List ℕ) → Reached all (rs ▸ R.End n) rest → n ≡ length (listed rs .contracts) → 0 < length rest →
-      Due all (record { number = 11; place = length (encodes (rs ▸ R.End n)); layer = L.Deck })
+      Due all (byDeck 11 (length (encodes (rs ▸ R.End n))))
 
 -- when a fault is due to an E at a place that gives the number n, where w W records stand before it
 abbrev pub EndNo : ℕ → ℕ → ℕ → ℕ → ℕ → DeckFault → Type 0
@@ -121,5 +121,5 @@ pub record Taken (all : List ℕ) (t t′ : Content) (r : Result Counts DeckFaul
 
 -- what intake answers, and the tables t′ that it leaves where they were t
 pub record Judged (all : List ℕ) (t t′ : Content) (r : Result Counts DeckFault) : Type 0 where
-  pub small : (Roomy t → ⊥) → Refused r (record { number = 1; place = 0; layer = L.Deck }) × (t′ ≡ t)
+  pub small : (Roomy t → ⊥) → Refused r (byDeck 1 0) × (t′ ≡ t)
   pub large : Roomy t → Answers all t t′ r × Verdict all r

@@ -1,4 +1,5 @@
 -- The number, the place and the layer of a fault of the deck layer.
+use Prim.Native.Nat.{ℕ}
 use Rattle.format.specs.declared.fault.Layer.the-variants as L
 use Rattle.format.specs.declared.fault.Refusal.{Refusal}
 use Rattle.rules.specs.declared.fault.RecordFault.{RecordFault}
@@ -6,13 +7,17 @@ use Rattle.rules.specs.Refusals.{recordRefusal}
 use Rattle.intake.specs.declared.fault.DeckFault.{DeckFault}
 use Rattle.intake.specs.declared.fault.DeckFault.the-variants.{Records, SmallTable, TooLong, WrongCount, Trailing, OtherTables}
 
+-- a refusal by this layer, with its number and place
+abbrev pub byDeck : ℕ → ℕ → Refusal
+byDeck n p = record { number = n; place = p; layer = L.Deck }
+
 abbrev pub deckOf : RecordFault → DeckFault
 deckOf f = Records f
 
 abbrev pub refusal : DeckFault → Refusal
 refusal (Records f) = recordRefusal f
-refusal SmallTable = record { number = 1; place = 0; layer = L.Deck }
-refusal TooLong = record { number = 2; place = 0; layer = L.Deck }
-refusal (WrongCount p) = record { number = 10; place = p; layer = L.Deck }
-refusal (Trailing p) = record { number = 11; place = p; layer = L.Deck }
-refusal OtherTables = record { number = 12; place = 0; layer = L.Deck }
+refusal SmallTable = byDeck 1 0
+refusal TooLong = byDeck 2 0
+refusal (WrongCount p) = byDeck 10 p
+refusal (Trailing p) = byDeck 11 p
+refusal OtherTables = byDeck 12 0

@@ -1,5 +1,5 @@
 // A fault of the deck layer, with one of the record layer whole.
-ghost use Rattle.intake.specs.Refusals.{deckOf, refusal as refusalOf};
+ghost use Rattle.intake.specs.Refusals.{byDeck, deckOf, refusal as refusalOf};
 ghost use mathlib.Core.Path.{_≡_};
 use format::fault::Layer;
 use format::fault::Refusal;
@@ -25,37 +25,28 @@ pub impl From<RecordFault> for DeckFault as DeckFromRecord {
     }
 }
 
+// A refusal by this layer.
+fn at(number: u8, place: usize) -> Refusal
+    ensures { λ r. ⌜ r ≡ byDeck number place ⌝ }
+{
+    Refusal {
+        number,
+        place,
+        layer: Layer::Deck,
+    }
+}
+
 impl DeckFault {
     pub fn refusal(&self) -> Refusal
         ensures { λ r. ⌜ r ≡ refusalOf (now (self .entry)) ⌝ }
     {
         match self {
             DeckFault::Records(f) => f.refusal(),
-            DeckFault::SmallTable => Refusal {
-                number: 1,
-                place: 0,
-                layer: Layer::Deck,
-            },
-            DeckFault::TooLong => Refusal {
-                number: 2,
-                place: 0,
-                layer: Layer::Deck,
-            },
-            DeckFault::WrongCount { place } => Refusal {
-                number: 10,
-                place: *place,
-                layer: Layer::Deck,
-            },
-            DeckFault::Trailing { place } => Refusal {
-                number: 11,
-                place: *place,
-                layer: Layer::Deck,
-            },
-            DeckFault::OtherTables => Refusal {
-                number: 12,
-                place: 0,
-                layer: Layer::Deck,
-            },
+            DeckFault::SmallTable => at(1, 0),
+            DeckFault::TooLong => at(2, 0),
+            DeckFault::WrongCount { place } => at(10, *place),
+            DeckFault::Trailing { place } => at(11, *place),
+            DeckFault::OtherTables => at(12, 0),
         }
     }
 }

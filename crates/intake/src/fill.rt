@@ -40,7 +40,8 @@ fn next_entry(
     requires few { ⌜ length (now (past .trainees)) ≤ 256 ⌝ }
     requires led { ⌜ Led section (contentOf past) ⌝ }
     ensures same { λ _. ⌜ now (now (reader .exit) .bytes) ≡ now (now (reader .entry) .bytes) ⌝ }
-    ensures cases { λ r. ⌜ Cases r (λ x. Entered section (contentOf (past .entry)) (now (now (reader .entry) .bytes)) (now (reader .entry) .place) (now (reader .exit) .place) x) (λ f. RecordNo section (contentOf (past .entry)) (drop (now (reader .entry) .place) (now (now (reader .entry) .bytes))) (now (reader .entry) .place) f) ⌝ }
+    ensures cases { λ r. ⌜ Cases r (λ x. Entered section (contentOf (past .entry)) (now (now (reader .entry) .bytes)) (now (reader .entry) .place) (now (reader .exit) .place) x)
+        (λ f. RecordNo section (contentOf (past .entry)) (drop (now (reader .entry) .place) (now (now (reader .entry) .bytes))) (now (reader .entry) .place) f) ⌝ }
 {
     let place = reader.place();
     let (rec, next) = admit(reader, section, past)?;
@@ -78,8 +79,11 @@ pub fn fill(
     bars: &mut [Barring],
 ) -> Result<Counts, DeckFault>
     requires roomy { ⌜ Roomy (tables (now groups) (now seats) (now reserves) (now trainees) (now contracts) (now bars)) ⌝ }
-    requires blank { ⌜ tables (now groups) (now seats) (now reserves) (now trainees) (now contracts) (now bars) ≡ blanks (tables (now groups) (now seats) (now reserves) (now trainees) (now contracts) (now bars)) ⌝ }
-    ensures { λ r. ⌜ Cases r (λ c. Fills (now (bytes .entry)) c (tables (now (groups .exit)) (now (seats .exit)) (now (reserves .exit)) (now (trainees .exit)) (now (contracts .exit)) (now (bars .exit)))) (λ f. Due (now (bytes .entry)) (refusal f)) ⌝ }
+    requires blank { ⌜ tables (now groups) (now seats) (now reserves) (now trainees) (now contracts) (now bars)
+        ≡ blanks (tables (now groups) (now seats) (now reserves) (now trainees) (now contracts) (now bars)) ⌝ }
+    ensures { λ r. ⌜ Cases r (λ c. Fills (now (bytes .entry)) c
+        (tables (now (groups .exit)) (now (seats .exit)) (now (reserves .exit)) (now (trainees .exit)) (now (contracts .exit)) (now (bars .exit))))
+        (λ f. Due (now (bytes .entry)) (refusal f)) ⌝ }
 {
     if bytes.len() > LONGEST {
         return Err(DeckFault::TooLong);

@@ -22,7 +22,8 @@ fn are_roomy(
     contracts: &[Contract],
     bars: &[Barring],
 ) -> bool
-    ensures { λ r. ⌜ Decides r (Roomy (tables (now (groups .entry)) (now (seats .entry)) (now (reserves .entry)) (now (trainees .entry)) (now (contracts .entry)) (now (bars .entry)))) ⌝ }
+    ensures { λ r. ⌜ Decides r (Roomy
+        (tables (now (groups .entry)) (now (seats .entry)) (now (reserves .entry)) (now (trainees .entry)) (now (contracts .entry)) (now (bars .entry)))) ⌝ }
 {
     groups.len() >= 64
         && seats.len() >= 256

@@ -1,6 +1,6 @@
 // Intake: a deck's bytes into six lent tables, whole or not at all.
 pub mod counts;
-pub mod entry;
+mod entry;
 pub mod fault;
 mod fill;
 pub mod intake;

@@ -27,7 +27,8 @@ pub fn blank(
     contracts: &mut [Contract],
     bars: &mut [Barring],
 )
-    ensures { λ _. ⌜ tables (now (groups .exit)) (now (seats .exit)) (now (reserves .exit)) (now (trainees .exit)) (now (contracts .exit)) (now (bars .exit)) ≡ blanks (tables (now (groups .entry)) (now (seats .entry)) (now (reserves .entry)) (now (trainees .entry)) (now (contracts .entry)) (now (bars .entry))) ⌝ }
+    ensures { λ _. ⌜ tables (now (groups .exit)) (now (seats .exit)) (now (reserves .exit)) (now (trainees .exit)) (now (contracts .exit)) (now (bars .exit))
+        ≡ blanks (tables (now (groups .entry)) (now (seats .entry)) (now (reserves .entry)) (now (trainees .entry)) (now (contracts .entry)) (now (bars .entry))) ⌝ }
 {
     groups.fill(NO_GROUP);
     seats.fill(NO_SEAT);
@@ -50,7 +51,8 @@ pub fn store(
 ) -> Counts
     requires { ⌜ Place-for had (tables (now groups) (now seats) (now reserves) (now trainees) (now contracts) (now bars)) entry ⌝ }
     ensures counts { λ r. ⌜ r ≡ counted had entry ⌝ }
-    ensures entries { λ _. ⌜ tables (now (groups .exit)) (now (seats .exit)) (now (reserves .exit)) (now (trainees .exit)) (now (contracts .exit)) (now (bars .exit)) ≡ written had (tables (now (groups .entry)) (now (seats .entry)) (now (reserves .entry)) (now (trainees .entry)) (now (contracts .entry)) (now (bars .entry))) entry ⌝ }
+    ensures entries { λ _. ⌜ tables (now (groups .exit)) (now (seats .exit)) (now (reserves .exit)) (now (trainees .exit)) (now (contracts .exit)) (now (bars .exit))
+        ≡ written had (tables (now (groups .entry)) (now (seats .entry)) (now (reserves .entry)) (now (trainees .entry)) (now (contracts .entry)) (now (bars .entry))) entry ⌝ }
 {
     let mut now_had = had;
     match entry {

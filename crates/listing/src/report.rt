@@ -65,7 +65,8 @@ fn trainee_line(p: &mut Printer, deck: &Deck, k: usize) -> Result<(), AllocError
 }
 
 fn trainee_lines(p: &mut Printer, deck: &Deck) -> Result<(), AllocError>
-    ensures { λ r. ⌜ Writes r (now (p .entry)) (now (p .exit)) (traineeLines (bytesOf (now (deck .entry))) (dataOf (now (deck .entry))) (length (dataOf (now (deck .entry)) .trainees))) ⌝ }
+    ensures { λ r. ⌜ Writes r (now (p .entry)) (now (p .exit))
+        (traineeLines (bytesOf (now (deck .entry))) (dataOf (now (deck .entry))) (length (dataOf (now (deck .entry)) .trainees))) ⌝ }
 {
     for k in 0..deck.trainees().len() {
         trainee_line(p, deck, k)?;

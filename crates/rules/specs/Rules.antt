@@ -52,9 +52,13 @@ Printable n = (i : ℕ) → i < length n → (32 ≤ getD n i 0) × (getD n i 0 
 abbrev pub IsDredger : List GroupEntry → ℕ → Type 0
 IsDredger gs d = (d < length gs) × (groupAt gs d .parent ≡ 255)
 
+-- no parent, or an earlier group
+abbrev pub IsParent : List GroupEntry → ℕ → Type 0
+IsParent gs p = (p ≡ 255 → ⊥) → p < length gs
+
 -- a parent is none or an earlier group, a wish's group a given one, a dredger field a given dredger
 abbrev pub InRange : List GroupEntry → Record → Type 0
-InRange gs (Group p c n) = ((p ≡ 255 → ⊥) → p < length gs) × Printable n
+InRange gs (Group p c n) = IsParent gs p × Printable n
 InRange gs (Seat d r) = IsDredger gs d × (r ≤ 2)
 InRange gs (Reserve d s) = IsDredger gs d
 InRange gs (Trainee l f n) = (f ≤ 1) × Printable n

@@ -23,7 +23,8 @@ pub fn admit(
     past: Tables,
 ) -> Result<(Record, Section), RecordFault>
     ensures same { λ _. ⌜ now (now (reader .exit) .bytes) ≡ now (now (reader .entry) .bytes) ⌝ }
-    ensures cases { λ r. ⌜ Cases r (λ x. Admitted section (contentOf (past .entry)) (now (now (reader .entry) .bytes)) (now (reader .entry) .place) (now (reader .exit) .place) x) (λ f. RecordNo section (contentOf (past .entry)) (drop (now (reader .entry) .place) (now (now (reader .entry) .bytes))) (now (reader .entry) .place) f) ⌝ }
+    ensures cases { λ r. ⌜ Cases r (λ x. Admitted section (contentOf (past .entry)) (now (now (reader .entry) .bytes)) (now (reader .entry) .place) (now (reader .exit) .place) x)
+        (λ f. RecordNo section (contentOf (past .entry)) (drop (now (reader .entry) .place) (now (now (reader .entry) .bytes))) (now (reader .entry) .place) f) ⌝ }
 {
     let place = reader.place();
     let next = advance(section, reader.kind()?, place)?;

@@ -1,5 +1,5 @@
 // A fault of the record layer, with one of the byte layer whole.
-ghost use Rattle.rules.specs.Refusals.{recordOf, recordRefusal};
+ghost use Rattle.rules.specs.Refusals.{byRecords, recordOf, recordRefusal};
 ghost use mathlib.Core.Path.{_≡_};
 use format::fault::ByteFault;
 use format::fault::ByteFaultDebug;
@@ -24,32 +24,27 @@ pub impl From<ByteFault> for RecordFault as RecordFromByte {
     }
 }
 
+// A refusal by this layer.
+fn at(number: u8, place: usize) -> Refusal
+    ensures { λ r. ⌜ r ≡ byRecords number place ⌝ }
+{
+    Refusal {
+        number,
+        place,
+        layer: Layer::Records,
+    }
+}
+
 impl RecordFault {
     pub fn refusal(&self) -> Refusal
         ensures { λ r. ⌜ r ≡ recordRefusal (now (self .entry)) ⌝ }
     {
         match self {
             RecordFault::Bytes(f) => f.refusal(),
-            RecordFault::Misplaced { place } => Refusal {
-                number: 5,
-                place: *place,
-                layer: Layer::Records,
-            },
-            RecordFault::Full { place } => Refusal {
-                number: 7,
-                place: *place,
-                layer: Layer::Records,
-            },
-            RecordFault::Range { place } => Refusal {
-                number: 8,
-                place: *place,
-                layer: Layer::Records,
-            },
-            RecordFault::Repeat { place } => Refusal {
-                number: 9,
-                place: *place,
-                layer: Layer::Records,
-            },
+            RecordFault::Misplaced { place } => at(5, *place),
+            RecordFault::Full { place } => at(7, *place),
+            RecordFault::Range { place } => at(8, *place),
+            RecordFault::Repeat { place } => at(9, *place),
         }
     }
 }

@@ -2,7 +2,7 @@
 ghost use Prim.Native.Nat.{ℕ, _+_, _<_, _≤_};
 ghost use Rattle.format.specs.Layout.{kind};
 ghost use Rattle.rules.specs.Contents.{contentOf};
-ghost use Rattle.rules.specs.Rules.{Fresh, FreshBar, FreshLot, FreshReserve, FreshWish, InRange, IsDredger, Printable, Room, RuleNo, Ruled};
+ghost use Rattle.rules.specs.Rules.{Fresh, FreshBar, FreshLot, FreshReserve, FreshWish, InRange, IsDredger, IsParent, Printable, Room, RuleNo, Ruled};
 ghost use Rattle.std.specs.Orderings.{Decides};
 ghost use Rattle.std.specs.Results.{Cases};
 ghost use lib.ListN.{length};
@@ -52,14 +52,19 @@ fn is_dredger(groups: &[Group], number: u8) -> bool
     at < groups.len() && groups[at].parent == NO_PARENT
 }
 
+// Whether a parent is none or an earlier group.
+fn is_parent(groups: &[Group], parent: u8) -> bool
+    ensures { λ r. ⌜ Decides r (IsParent (now (groups .entry)) parent) ⌝ }
+{
+    parent == NO_PARENT || (parent as usize) < groups.len()
+}
+
 // Whether each field is in its range.
 fn in_range(rec: Record, groups: &[Group]) -> bool
     ensures { λ r. ⌜ Decides r (InRange (now (groups .entry)) rec) ⌝ }
 {
     match rec {
-        Record::Group { parent, name, .. } => (parent == NO_PARENT
-            || (parent as usize) < groups.len())
-            && is_printable(&name),
+        Record::Group { parent, name, .. } => is_parent(groups, parent) && is_printable(&name),
         Record::Seat { dredger, rule } => is_dredger(groups, dredger) && rule <= 2,
         Record::Reserve { dredger, .. } => is_dredger(groups, dredger),
         Record::Trainee { flag, name, .. } => flag <= 1 && is_printable(&name),
@@ -122,11 +127,10 @@ fn is_fresh(rec: Record, past: Tables) -> bool
     match rec {
         Record::Reserve { dredger, .. } => is_new_reserve(past.reserves, dredger),
         Record::Trainee { lot, .. } => is_new_lot(past.trainees, lot),
-        Record::Wish { group, .. } => is_new_wish(
-            past.contracts,
-            trainee,
-            past.groups[group as usize].dredger,
-        ),
+        Record::Wish { group, .. } => {
+            let dredger = past.groups[group as usize].dredger;
+            is_new_wish(past.contracts, trainee, dredger)
+        }
         Record::Bar { dredger } => is_new_bar(past.bars, trainee, dredger),
         _ => true,
     }

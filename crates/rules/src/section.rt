@@ -6,7 +6,7 @@ ghost use mathlib.Core.Path.{_≡_};
 use crate::fault::RecordFault;
 use format::record::Kind;
 
-#[derive(Clone, Copy, Debug)]
+#[derive(Clone, Copy)]
 pub enum Section {
     Groups,
     Seats,
@@ -17,7 +17,8 @@ pub enum Section {
 
 // The section after a record of this kind, which stands at `place`.
 pub fn advance(section: Section, next: Kind, place: usize) -> Result<Section, RecordFault>
-    ensures { λ r. ⌜ Cases r (λ s. (may section next ≡ true) × (s ≡ after next)) (λ f. (may section next ≡ false) × (f ≡ RecordFault.Misplaced place)) ⌝ }
+    ensures { λ r. ⌜ Cases r (λ s. (may section next ≡ true) × (s ≡ after next))
+        (λ f. (may section next ≡ false) × (f ≡ RecordFault.Misplaced place)) ⌝ }
 {
     match (section, next) {
         (Section::Groups, Kind::Group) => Ok(Section::Groups),

@@ -1,8 +1,0 @@
-use mathlib.Core.Path.{sym, _∙_}
-use Rattle.deck.proofs.Deals.{fits-deals}
-use Rattle.deck.proofs.deck.Deck.bind.Needs as need
-
-pub made-requires : need.made-requires
-made-requires c κs =
-    let d = fits-deals _ _ _ (c .agrees .ensures .0 (c .if-not-agrees .left)) in
-    (d .0, d .1, d .2 ∙ sym (c .firsts .ensures))
