@@ -1,4 +1,5 @@
 // Small decks that are accepted.
+use crate::case::counts_of;
 use crate::case::judged;
 use crate::samples::P;
 use crate::samples::P_COUNTS;
@@ -6,7 +7,6 @@ use crate::samples::Q;
 use crate::samples::Q_COUNTS;
 use format::fault::RefusalDebug;
 use format::fault::RefusalPartialEq;
-use intake::counts::Counts;
 use intake::counts::CountsDebug;
 use intake::counts::CountsPartialEq;
 use std::test::*;
@@ -63,18 +63,6 @@ const EQUALS: [Good; 6] = [
         [1, 0, 0, 2, 2, 2],
     ),
 ];
-
-fn counts_of(row: [usize; 6]) -> Counts {
-    let [groups, seats, reserves, trainees, wishes, bars] = row;
-    Counts {
-        groups,
-        seats,
-        reserves,
-        trainees,
-        wishes,
-        bars,
-    }
-}
 
 fn all_accepted(cases: &[Good]) -> Result<(), Fail> {
     for (i, case) in cases.iter().enumerate() {

@@ -38,6 +38,19 @@ pub fn refusal(number: u8, place: usize) -> Refusal {
     }
 }
 
+// Groups, seats, reserves, trainees, wishes, bars.
+pub fn counts_of(row: [usize; 6]) -> Counts {
+    let [groups, seats, reserves, trainees, wishes, bars] = row;
+    Counts {
+        groups,
+        seats,
+        reserves,
+        trainees,
+        wishes,
+        bars,
+    }
+}
+
 // Intake's answer, with tables of the least size.
 pub fn judged(deck: &[u8]) -> Result<Counts, Refusal> {
     let mut groups = [NO_GROUP; 64];

@@ -2,12 +2,22 @@
 #[cfg(test)]
 mod accepted;
 #[cfg(test)]
+mod book;
+#[cfg(test)]
+mod bound;
+#[cfg(test)]
 mod build;
 #[cfg(test)]
 mod case;
 #[cfg(test)]
+mod entries;
+#[cfg(test)]
 mod faults;
 #[cfg(test)]
 mod fronts;
+#[cfg(test)]
+mod limits;
+#[cfg(test)]
+mod long;
 #[cfg(test)]
 mod samples;

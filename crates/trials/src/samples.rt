@@ -85,7 +85,7 @@ pub const Q_COUNTS: Counts = Counts {
     bars: 3,
 };
 
-fn group(parent: u8, capacity: u16, name: usize, dredger: u8) -> Group {
+pub fn group(parent: u8, capacity: u16, name: usize, dredger: u8) -> Group {
     Group {
         parent,
         capacity,
@@ -94,12 +94,12 @@ fn group(parent: u8, capacity: u16, name: usize, dredger: u8) -> Group {
     }
 }
 
-fn trainee(lot: u16, flag: bool, name: usize) -> Trainee {
+pub fn trainee(lot: u16, flag: bool, name: usize) -> Trainee {
     Trainee { lot, flag, name }
 }
 
 // The owner's number is given with their lot and flag.
-fn contract(
+pub fn contract(
     (trainee, lot, flag): (u16, u16, bool),
     group: u8,
     dredger: u8,
