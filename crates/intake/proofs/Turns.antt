@@ -113,19 +113,20 @@ module _ {all rb : List ℕ} {place : ℕ} {section : Section} {had : Counts} {t
       subst (λ (y : Entry). Place-for had t y) (sym (c .entry-is))
       (place-for (listed rs) had t (length (encodes rs)) (c .came) (c .read .passes .1 .ruled .room) (st .holds) (st .roomy))
 
-  -- one record more
-  pub again : (rb′ : List ℕ) (q : ℕ) (e : Entry) (s : Section) → rb′ ≡ rb → Entered section x rb place q (e, s) → ((n : ℕ) → e ≡ E.End n → ⊥) →
-      (r : Row) × State all rb′ q s (counted had e) (written had t e) r
-  again rb′ q e s same h more =
-      let c = came q e s h in (
+  -- one record more, and its entry stored
+  pub again : (rb′ : List ℕ) (q : ℕ) (e : Entry) (s : Section) (had′ : Counts) (t′ : Content) → rb′ ≡ rb → Entered section x rb place q (e, s) →
+      ((n : ℕ) → e ≡ E.End n → ⊥) → had′ ≡ counted had e → t′ ≡ written had t e → (r : Row) × State all rb′ q s had′ t′ r
+  again rb′ q e s had′ t′ same h more hc ht =
+      let c = came q e s h in
+      let holds = subst (λ (y : Entry). Holds (pushed (listed rs) y) (counted had e) (written had t e)) (c .entry-is) (holds-more (listed rs) had t e (st .holds) (room-for q e s h)) in (
         rs ▸ c .came,
         record {
           same = same ∙ st .same;
           read = c .read;
           section-is = c .section-is;
           is-open = open-after (listed rs) (length (encodes rs)) (c .came) (λ n z. more n (c .entry-is ∙ z));
-          holds = subst (λ (y : Entry). Holds (pushed (listed rs) y) (counted had e) (written had t e)) (c .entry-is) (holds-more (listed rs) had t e (st .holds) (room-for q e s h));
-          roomy = roomy-written had t e (st .roomy);
+          holds = subst (λ (y : Content). Holds (listed (rs ▸ c .came)) had′ y) (sym ht) (subst (λ (d : Counts). Holds (listed (rs ▸ c .came)) d (written had t e)) (sym hc) holds);
+          roomy = subst Roomy (sym ht) (roomy-written had t e (st .roomy));
         },
       )
 

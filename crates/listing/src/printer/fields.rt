@@ -13,16 +13,6 @@ use format::fault::Refusal;
 use std::alloc::AllocError;
 use std::alloc::Global;
 
-fn layer_name(layer: Layer) -> &'static [u8]
-    ensures { λ r. ⌜ now r ≡ layerName layer ⌝ }
-{
-    match layer {
-        Layer::Bytes => b"bytes",
-        Layer::Records => b"records",
-        Layer::Deck => b"deck",
-    }
-}
-
 impl Printer {
     pub fn new(heap: Global) -> Printer
         ensures { λ r. ⌜ written r ≡ [] ⌝ }
@@ -70,6 +60,16 @@ impl Printer {
         self.put(&deck[place..place + 8])
     }
 
+    fn layer(&mut self, layer: Layer) -> Result<(), AllocError>
+        ensures { λ r. ⌜ Writes r (now (self .entry)) (now (self .exit)) (layerName layer) ⌝ }
+    {
+        match layer {
+            Layer::Bytes => self.put(b"bytes"),
+            Layer::Records => self.put(b"records"),
+            Layer::Deck => self.put(b"deck"),
+        }
+    }
+
     // A name and a number.
     pub fn name_line(&mut self, deck: &[u8], place: usize, n: usize) -> Result<(), AllocError>
         requires { ⌜ place + 8 ≤ length (now deck) ⌝ }
@@ -90,7 +90,7 @@ impl Printer {
         self.put(b" PLACE")?;
         self.field(x.place)?;
         self.put(b" LAYER ")?;
-        self.put(layer_name(x.layer))?;
+        self.layer(x.layer)?;
         self.put(b"\n")?;
         Ok(())
     }

@@ -3,12 +3,9 @@ use mathlib.Core.Path.{_≡_, refl, sym, _∙_, ap, subst}
 use native.Mathlib.Omega.{arith}
 use lib.ListN.{length}
 use Rattle.std.proofs.shelf.Results.{err-from-errBy, cases-weaker}
-use Rattle.rules.specs.Contents.{Content, contentOf}
-use Rattle.intake.specs.declared.counts.Counts.{Counts}
-use Rattle.intake.specs.Rows.{Row}
-use Rattle.intake.specs.Fillings.{tables, written}
+use Rattle.rules.specs.Contents.{contentOf}
+use Rattle.intake.specs.Fillings.{tables}
 use Rattle.intake.specs.Book.{too-long, EndNo}
-use Rattle.intake.proofs.States.{State}
 use Rattle.intake.proofs.Turns.{few-past, led-past, refused, again, closed, not-closed}
 use Rattle.intake.proofs.fill.fill.Needs as need
 
@@ -18,7 +15,8 @@ returns-then-bytes-gt-LONGEST c = too-long (omega arith)
 pub next-entry-requires : need.next-entry-requires
 next-entry-requires c κs =
     let st = c .loop-entry .inv .1 in
-    let l = ap length (st .same) in
+    let same : c .loop-entry .reader .bytes .now ≡ c .args .bytes .now = st .same in
+    let l = ap length same in
     record {
       place = omega (arith, c .loop-entry .reader .inside);
       few = few-past st (contentOf (c .firsts-past .result)) (c .firsts-past .ensures);
@@ -37,19 +35,17 @@ returns-in-End c =
     let e = c .firsts-past .ensures in
     let h = c .in-Continue-entry .ensures tt .cases in
     let short : length (c .args .bytes .now) ≤ 15363 = omega arith in
-    let l = ap length (c .in-Continue-entry .ensures tt .same ∙ st .same) in
+    let same : c .next-entry .last .reader .bytes .now ≡ c .args .bytes .now = c .in-Continue-entry .ensures tt .same ∙ st .same in
+    let l = ap length same in
     cases-weaker (c .close .result) (c .close .ensures)
-    (λ k g. closed st x e short (c .in-End .count) _ _ _ h (c .in-End .is) k (g .0, g .1, sym (c .place .ensures) ∙ g .2))
-    (λ f g. not-closed st x e short (c .in-End .count) _ _ _ h (c .in-End .is) (omega (arith, c .next-entry .last .reader .inside)) f
+    (λ k g. closed st x e short (c .in-End .count) (c .next-entry .last .reader .place) (c .in-Continue-entry .entry) (c .in-Continue-entry .next) h (c .in-End .is) k (g .0, g .1, sym (c .place .ensures) ∙ g .2))
+    (λ f g. not-closed st x e short (c .in-End .count) (c .next-entry .last .reader .place) (c .in-Continue-entry .entry) (c .in-Continue-entry .next) h (c .in-End .is) (omega (arith, c .next-entry .last .reader .inside)) f
     (subst (λ (y : ℕ). EndNo (c .in-End .count) (c .loop-entry .had .wishes) y (c .next-entry .last .reader .place) (length (c .args .bytes .now)) f) (c .place-place .ensures)
     (subst (λ (y : ℕ). EndNo (c .in-End .count) (c .loop-entry .had .wishes) (c .place-place .result) y (length (c .args .bytes .now)) f) (c .place .ensures) g)))
 
 pub loop-entry-again : need.loop-entry-again
 loop-entry-again c =
-    let st = c .loop-entry .inv .1 in
-    let a = again st (contentOf (c .firsts-past .result)) (c .firsts-past .ensures) (c .next-entry .last .reader .bytes .now) (c .next-entry .last .reader .place) (c .in-Continue-entry .entry) (c .in-Continue-entry .next)
-    (c .in-Continue-entry .ensures tt .same) (c .in-Continue-entry .ensures tt .cases) (c .in-rest .not-End) in (
-      a .0,
-      subst (λ (t : Content). State (c .args .bytes .now) (c .next-entry .last .reader .bytes .now) (c .next-entry .last .reader .place) (c .in-Continue-entry .next) (c .store-had .result) t (a .0)) (sym (c .store-had .ensures .entries))
-          (subst (λ (d : Counts). State (c .args .bytes .now) (c .next-entry .last .reader .bytes .now) (c .next-entry .last .reader .place) (c .in-Continue-entry .next) d (written (c .loop-entry .had) (tables (c .loop-entry .groups) (c .loop-entry .seats) (c .loop-entry .reserves) (c .loop-entry .trainees) (c .loop-entry .contracts) (c .loop-entry .bars)) (c .in-Continue-entry .entry)) (a .0)) (sym (c .store-had .ensures .counts)) (a .1)),
-    )
+    again (c .loop-entry .inv .1) (contentOf (c .firsts-past .result)) (c .firsts-past .ensures) (c .next-entry .last .reader .bytes .now) (c .next-entry .last .reader .place)
+    (c .in-Continue-entry .entry) (c .in-Continue-entry .next) (c .store-had .result)
+    (tables (c .store-had .last .groups) (c .store-had .last .seats) (c .store-had .last .reserves) (c .store-had .last .trainees) (c .store-had .last .contracts) (c .store-had .last .bars))
+    (c .in-Continue-entry .ensures tt .same) (c .in-Continue-entry .ensures tt .cases) (c .in-rest .not-End) (c .store-had .ensures .counts) (c .store-had .ensures .entries)

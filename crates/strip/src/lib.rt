@@ -1,0 +1,2 @@
+// A strip: a row of elements in memory that the caller lends.
+pub mod row;
