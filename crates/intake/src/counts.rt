@@ -15,6 +15,15 @@ pub struct Counts {
     pub bars: usize,
 }
 
+pub const NO_COUNTS: Counts = Counts {
+    groups: 0,
+    seats: 0,
+    reserves: 0,
+    trainees: 0,
+    wishes: 0,
+    bars: 0,
+};
+
 fn front<T>(entries: &[T], n: usize) -> &[T]
     ensures { λ r. ⌜ now r ≡ take n (now (entries .entry)) ⌝ }
 {

@@ -10,6 +10,7 @@ ghost use Rattle.std.specs.Results.{Cases};
 ghost use lib.ListN.{drop, length};
 ghost use mathlib.Core.Path.{_≡_};
 use crate::counts::Counts;
+use crate::counts::NO_COUNTS;
 use crate::entry::Entry;
 use crate::entry::entry_of;
 use crate::fault::DeckFault;
@@ -90,14 +91,7 @@ pub fn fill(
     }
     let mut reader = Reader::new(bytes);
     let mut section = Section::Groups;
-    let mut had = Counts {
-        groups: 0,
-        seats: 0,
-        reserves: 0,
-        trainees: 0,
-        wishes: 0,
-        bars: 0,
-    };
+    let mut had = NO_COUNTS;
     loop {
         let place = reader.place();
         let past = had.firsts(Tables {

@@ -54,33 +54,33 @@ pub fn store(
     ensures entries { λ _. ⌜ tables (now (groups .exit)) (now (seats .exit)) (now (reserves .exit)) (now (trainees .exit)) (now (contracts .exit)) (now (bars .exit))
         ≡ written had (tables (now (groups .entry)) (now (seats .entry)) (now (reserves .entry)) (now (trainees .entry)) (now (contracts .entry)) (now (bars .entry))) entry ⌝ }
 {
-    let mut now_had = had;
+    let mut counts = had;
     match entry {
         Entry::Group(x) => {
             groups[had.groups] = x;
-            now_had.groups += 1;
+            counts.groups += 1;
         }
         Entry::Seat(x) => {
             seats[had.seats] = x;
-            now_had.seats += 1;
+            counts.seats += 1;
         }
         Entry::Reserve(x) => {
             reserves[had.reserves] = x;
-            now_had.reserves += 1;
+            counts.reserves += 1;
         }
         Entry::Trainee(x) => {
             trainees[had.trainees] = x;
-            now_had.trainees += 1;
+            counts.trainees += 1;
         }
         Entry::Contract(x) => {
             contracts[had.wishes] = x;
-            now_had.wishes += 1;
+            counts.wishes += 1;
         }
         Entry::Bar(x) => {
             bars[had.bars] = x;
-            now_had.bars += 1;
+            counts.bars += 1;
         }
         Entry::End(_) => {}
     }
-    now_had
+    counts
 }
