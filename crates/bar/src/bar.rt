@@ -3,7 +3,7 @@ ghost use Rattle.std.specs.Prelude.{◌≡◌, ℕ, ◌<◌, true, cond, length,
 ghost use Rattle.board.specs.Calls.{Chosen, Explained};
 ghost use Rattle.board.specs.Marks.{member};
 ghost use Rattle.deck.specs.Contents.{data_of};
-ghost use Rattle.bar.specs.Bars.{bar-reason, barred};
+ghost use Rattle.bar.specs.Bars.{bar_reason, barred};
 ghost use Rattle.matching.specs.Choices.{without};
 ghost use Rattle.matching.proofs.Made.{without-lawful};
 ghost use Rattle.std.proofs.Common.{rules};
@@ -89,7 +89,7 @@ impl<C: Explain> Bar<C> {
         ensures { Explained
             (without (barred (take self.now.bars.count self.now.bars.pairs) (data_of deck.now).contracts)
             (C.Board.kept self.now.below (data_of deck.now)))
-            (bar-reason (barred (take self.now.bars.count self.now.bars.pairs) (data_of deck.now).contracts) (data_of deck.now).contracts
+            (bar_reason (barred (take self.now.bars.count self.now.bars.pairs) (data_of deck.now).contracts) (data_of deck.now).contracts
             (C.Explain.reason self.now.below (data_of deck.now)))
             (length (data_of deck.now).contracts) marks.now k result }
     {
@@ -107,7 +107,7 @@ impl<C: Explain> Bar<C> {
 }
 
 impl<C: Explain> Explain for Bar<C> {
-    ghost reason = { λ s t. bar-reason (barred (take s.bars.count s.bars.pairs) t.contracts) t.contracts (C.Explain.reason s.below t) };
+    ghost reason = { λ s t. bar_reason (barred (take s.bars.count s.bars.pairs) t.contracts) t.contracts (C.Explain.reason s.below t) };
 
     ghost further = { Prim.search rules };
 

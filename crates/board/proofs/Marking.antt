@@ -6,19 +6,19 @@ use Rattle.std.proofs.lemmas.List.FromFn.{length-map-range_with_len, get_or-map-
 use Rattle.std.proofs.lemmas.List.{get_or_past}
 use Rattle.std.proofs.lemmas.Bool.{cases_lt, cases_Bool}
 use Rattle.matching.specs.Sets.{Set, minus, union, Part, Within}
-use Rattle.matching.proofs.Sets.{out-of-part, and-true, inside, outside}
+use Rattle.matching.proofs.Sets.{out_of_part, and_true, inside, outside}
 use Rattle.board.specs.Marks.{member, marked}
 
-bit-back : (b : Bool) → not (eqb (cond b 1 0) 0) ≡ b
-bit-back true = refl
-bit-back false = refl
+bit_back : (b : Bool) → not (eqb (cond b 1 0) 0) ≡ b
+bit_back true = refl
+bit_back false = refl
 
-pub member-past : (xs : List ℕ) (k : ℕ) → length xs ≤ k → member xs k ≡ false
-member-past xs k h = ap (λ x. not (eqb x 0)) (get_or_past xs k 0 h)
+pub member_past : (xs : List ℕ) (k : ℕ) → length xs ≤ k → member xs k ≡ false
+member_past xs k h = ap (λ x. not (eqb x 0)) (get_or_past xs k 0 h)
 
 -- marks are a list of as many contracts as there are marks
 pub member-within : (xs : List ℕ) (n : ℕ) → length xs ≡ n → Within n (member xs)
-member-within xs n e k h = ⊎_elim (λ l. l) (λ l. absurd (false-true (sym (member-past xs k (rw e l)) ∙ h))) (cases_lt k n)
+member-within xs n e k h = ⊎_elim (λ l. l) (λ l. absurd (false-true (sym (member_past xs k (rw e l)) ∙ h))) (cases_lt k n)
   where
     false-true : false ≡ true → ⊥
     false-true z = let y : ◌≡◌ {A = ℕ} 1 0 = ap (λ b. cond b 0 1) z in omega arith
@@ -26,23 +26,23 @@ member-within xs n e k h = ⊎_elim (λ l. l) (λ l. absurd (false-true (sym (me
 pub length_marked : (n : ℕ) (X : Set) → length (marked n X) ≡ n
 length_marked n X = length-map-range_with_len (λ k. cond (X k) 1 0) 0 n
 
-pub getD-marked : (n : ℕ) (Z : Set) (k : ℕ) → k < n → get_or (marked n Z) k 0 ≡ cond (Z k) 1 0
-getD-marked n Z k h = get_or-map-range_with_len (λ j. cond (Z j) 1 0) 0 n k k 0 h (omega arith)
+pub get_or-marked : (n : ℕ) (Z : Set) (k : ℕ) → k < n → get_or (marked n Z) k 0 ≡ cond (Z k) 1 0
+get_or-marked n Z k h = get_or-map-range_with_len (λ j. cond (Z j) 1 0) 0 n k k 0 h (omega arith)
 
 pub member-marked : (n : ℕ) (Z : Set) → Within n Z → member (marked n Z) ≡ Z
 member-marked n Z within = fun_ext at
   where
     at : (k : ℕ) → member (marked n Z) k ≡ Z k
-    at k = ⊎_elim (λ h. ap (λ x. not (eqb x 0)) (getD-marked n Z k h) ∙ bit-back (Z k))
-        (λ h. member-past (marked n Z) k (rw length-map-range_with_len h) ∙ sym (outside Z k (λ z. let l = within k z in omega arith))) (cases_lt k n)
+    at k = ⊎_elim (λ h. ap (λ x. not (eqb x 0)) (get_or-marked n Z k h) ∙ bit_back (Z k))
+        (λ h. member_past (marked n Z) k (rw length-map-range_with_len h) ∙ sym (outside Z k (λ z. let l = within k z in omega arith))) (cases_lt k n)
 
-strike-bit : (b : Bool) (x : ℕ) → not (eqb (cond b 0 x) 0) ≡ (not (eqb x 0) && not b)
-strike-bit true x = and_no (not (eqb x 0))
+strike_bit : (b : Bool) (x : ℕ) → not (eqb (cond b 0 x) 0) ≡ (not (eqb x 0) && not b)
+strike_bit true x = and_no (not (eqb x 0))
   where
     and_no : (a : Bool) → false ≡ (a && false)
     and_no true = refl
     and_no false = refl
-strike-bit false x = sym (and-true (not (eqb x 0)))
+strike_bit false x = sym (and_true (not (eqb x 0)))
 
 -- marks in which the places of B were set to zero
 pub struck : (B : Set) (n : ℕ) (xs ys : List ℕ) → length xs ≡ n → length ys ≡ n
@@ -50,8 +50,8 @@ pub struck : (B : Set) (n : ℕ) (xs ys : List ℕ) → length xs ≡ n → leng
 struck B n xs ys lx ly h = fun_ext at
   where
     at : (k : ℕ) → member ys k ≡ minus (member xs) B k
-    at k = ⊎_elim (λ l. ap (λ x. not (eqb x 0)) (h k l) ∙ strike-bit (B k) (get_or xs k 0))
-        (λ l. member-past ys k (omega arith) ∙ sym (ap (λ a. a && not (B k)) (member-past xs k (omega arith)))) (cases_lt k n)
+    at k = ⊎_elim (λ l. ap (λ x. not (eqb x 0)) (h k l) ∙ strike_bit (B k) (get_or xs k 0))
+        (λ l. member_past ys k (omega arith) ∙ sym (ap (λ a. a && not (B k)) (member_past xs k (omega arith)))) (cases_lt k n)
 
 -- marks that were written from a test T on the places below n
 pub written : (T : Set) (n : ℕ) (ys : List ℕ) → length ys ≡ n → Within n T
@@ -59,8 +59,8 @@ pub written : (T : Set) (n : ℕ) (ys : List ℕ) → length ys ≡ n → Within
 written T n ys ly within h = fun_ext at
   where
     at : (k : ℕ) → member ys k ≡ T k
-    at k = ⊎_elim (λ l. ap (λ x. not (eqb x 0)) (h k l) ∙ bit-back (T k))
-        (λ l. member-past ys k (omega arith) ∙ sym (outside T k (λ z. let m = within k z in omega arith))) (cases_lt k n)
+    at k = ⊎_elim (λ l. ap (λ x. not (eqb x 0)) (h k l) ∙ bit_back (T k))
+        (λ l. member_past ys k (omega arith) ∙ sym (outside T k (λ z. let m = within k z in omega arith))) (cases_lt k n)
 
 -- 0 and 1 at each place make the marks of a list
 pub marked_from : (T : Set) (n : ℕ) (ys : List ℕ) → length ys ≡ n → ((j : ℕ) → j < n → get_or ys j 0 ≡ cond (T j) 1 0) → ys ≡ marked n T
@@ -75,4 +75,4 @@ pub put : (R Z : Set) (n : ℕ) (mid ys : List ℕ) → mid ≡ marked n Z → l
     → ((k : ℕ) → k < n → get_or ys k 0 ≡ cond (R k) 1 (get_or mid k 0)) → ys ≡ marked n (union R Z)
 put R Z n mid ys m l h =
     marked_from (union R Z) n ys l
-    (λ j i. h j i ∙ ap (λ x. cond (R j) 1 x) (ap (λ xs. get_or xs j 0) m ∙ getD-marked n Z j i) ∙ bit_or (R j) (Z j))
+    (λ j i. h j i ∙ ap (λ x. cond (R j) 1 x) (ap (λ xs. get_or xs j 0) m ∙ get_or-marked n Z j i) ∙ bit_or (R j) (Z j))

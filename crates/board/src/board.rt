@@ -2,7 +2,7 @@
 ghost use Rattle.board.specs.Calls.{Chosen};
 ghost use Rattle.board.specs.Decks.{OfDeck};
 ghost use Rattle.deck.specs.Contents.{data_of};
-ghost use Rattle.matching.specs.Choices.{Irrelevant, Keeps-part, Substitutable};
+ghost use Rattle.matching.specs.Choices.{Irrelevant, KeepsPart, Substitutable};
 ghost use Rattle.matching.specs.Sets.{Set};
 ghost use Rattle.rules.specs.Contents.{Content};
 ghost use Rattle.std.specs.Prelude.{length};
@@ -19,7 +19,7 @@ pub trait Board {
         ensures { Chosen (kept self.now (data_of deck.now)) (length (data_of deck.now).contracts)
             marks.old marks.new result };
 
-    ghost part: { (b : Self) (t : Content) → OfDeck t → Keeps-part (length t.contracts) (kept b t) };
+    ghost part: { (b : Self) (t : Content) → OfDeck t → KeepsPart (length t.contracts) (kept b t) };
 
     ghost substitutable: { (b : Self) (t : Content) → OfDeck t → Substitutable (length t.contracts) (kept b t) };
 

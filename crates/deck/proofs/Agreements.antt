@@ -6,7 +6,7 @@ use Rattle.intake.specs.declared.counts.Counts.{Counts}
 use Rattle.intake.specs.Rows.{Row, listed}
 use Rattle.intake.specs.Book.{Fills}
 use Rattle.intake.specs.Fillings.{Held, Holds, Roomy}
-use Rattle.intake.proofs.Unique.{one-row}
+use Rattle.intake.proofs.Unique.{one_row}
 use Rattle.deck.specs.Alike.{Extends, Matches, Fits}
 
 -- tables that are just large enough
@@ -19,24 +19,24 @@ pub record Exact (t : Content) : Type 0 where
   pub bars : length t.bars ≡ 128
 
 module _ {A : Type 0} (d : A) (xs own given : List A) (n : ℕ) (h : Held d xs n own) where
-  own-long : length xs ≤ length own
-  own-long = let e = ap length h.filled ∙ length-append xs (replicate (length own - length xs) d) in omega arith
+  own_long : length xs ≤ length own
+  own_long = let e = ap length h.filled ∙ length-append xs (replicate (length own - length xs) d) in omega arith
 
   -- blanks after the entries, and blanks after the table
   seam : length own ≤ length given → own ++ replicate (length given - length own) d ≡ xs ++ replicate (length given - length xs) d
   seam le =
-      let l = own-long in
+      let l = own_long in
       let e : (length own - length xs) + (length given - length own) ≡ length given - length xs = omega arith in
       ap (λ (u : List A). u ++ replicate (length given - length own) d) h.filled
       ∙ append_assoc xs (replicate (length own - length xs) d) (replicate (length given - length own) d)
       ∙ ap (λ (u : List A). xs ++ u) (replicate-append-replicate (length own - length xs) (length given - length own) d)
       ∙ ap (λ (k : ℕ). xs ++ replicate k d) e
 
-  held-given : Extends d own given → Held d xs n given
-  held-given e = record { count = h.count; filled = e.same ∙ seam e.long }
+  held_given : Extends d own given → Held d xs n given
+  held_given e = record { count = h.count; filled = e.same ∙ seam e.long }
 
-  given-held : (m : ℕ) → length own ≤ length given → Held d xs m given → Extends d own given
-  given-held m le g = record { long = le; same = g.filled ∙ sym (seam le) }
+  given_held : (m : ℕ) → length own ≤ length given → Held d xs m given → Extends d own given
+  given_held m le g = record { long = le; same = g.filled ∙ sym (seam le) }
 
 pub agreed : (all : List ℕ) (own given : Content) (had said : Counts) → Exact own → Fills all had own → Matches own had given said → Fits all said given
 agreed all own given had said x f m =
@@ -48,12 +48,12 @@ agreed all own given had said x f m =
         f.0,
         f.1,
         subst (λ (k : Counts). Holds (listed f.0) k given) m.counts (record {
-          groups = held-given _ _ _ _ _ h.groups m.groups;
-          seats = held-given _ _ _ _ _ h.seats m.seats;
-          reserves = held-given _ _ _ _ _ h.reserves m.reserves;
-          trainees = held-given _ _ _ _ _ h.trainees m.trainees;
-          contracts = held-given _ _ _ _ _ h.contracts m.contracts;
-          bars = held-given _ _ _ _ _ h.bars m.bars;
+          groups = held_given _ _ _ _ _ h.groups m.groups;
+          seats = held_given _ _ _ _ _ h.seats m.seats;
+          reserves = held_given _ _ _ _ _ h.reserves m.reserves;
+          trainees = held_given _ _ _ _ _ h.trainees m.trainees;
+          contracts = held_given _ _ _ _ _ h.contracts m.contracts;
+          bars = held_given _ _ _ _ _ h.bars m.bars;
         }),
       ),
     )
@@ -74,13 +74,13 @@ pub matched : (all : List ℕ) (own given : Content) (had said : Counts) → Exa
 matched all own given had said x f k =
     let r = k.0 in
     let h = f.2 in
-    let g = subst (λ (R : Row). Holds (listed R) said given) (one-row all k.1.0 f.0 k.1.1 f.1) k.1.2 in
+    let g = subst (λ (R : Row). Holds (listed R) said given) (one_row all k.1.0 f.0 k.1.1 f.1) k.1.2 in
     record {
       counts = same-counts (listed f.0) had said own given h g;
-      groups = given-held _ _ _ _ _ h.groups _ (omega (arith, x.groups, r.groups)) g.groups;
-      seats = given-held _ _ _ _ _ h.seats _ (omega (arith, x.seats, r.seats)) g.seats;
-      reserves = given-held _ _ _ _ _ h.reserves _ (omega (arith, x.reserves, r.reserves)) g.reserves;
-      trainees = given-held _ _ _ _ _ h.trainees _ (omega (arith, x.trainees, r.trainees)) g.trainees;
-      contracts = given-held _ _ _ _ _ h.contracts _ (omega (arith, x.contracts, r.contracts)) g.contracts;
-      bars = given-held _ _ _ _ _ h.bars _ (omega (arith, x.bars, r.bars)) g.bars;
+      groups = given_held _ _ _ _ _ h.groups _ (omega (arith, x.groups, r.groups)) g.groups;
+      seats = given_held _ _ _ _ _ h.seats _ (omega (arith, x.seats, r.seats)) g.seats;
+      reserves = given_held _ _ _ _ _ h.reserves _ (omega (arith, x.reserves, r.reserves)) g.reserves;
+      trainees = given_held _ _ _ _ _ h.trainees _ (omega (arith, x.trainees, r.trainees)) g.trainees;
+      contracts = given_held _ _ _ _ _ h.contracts _ (omega (arith, x.contracts, r.contracts)) g.contracts;
+      bars = given_held _ _ _ _ _ h.bars _ (omega (arith, x.bars, r.bars)) g.bars;
     }

@@ -10,17 +10,17 @@ use Rattle.deck.specs.Alike.{Fits}
 use Rattle.deck.specs.Lawful.{Deals}
 use Rattle.deck.proofs.Sound.{Sound, sound}
 
-pub dealt-sound : (all : List ℕ) (t : Content) → Deals all t → Sound all t
-dealt-sound all t d =
-    subst (λ (x : Content). Sound all x) d.2 (subst (λ (b : List ℕ). Sound b (listed d.0)) (sym d.1.bytes-are) (sound (ended d.0) d.1.passes))
+pub dealt_sound : (all : List ℕ) (t : Content) → Deals all t → Sound all t
+dealt_sound all t d =
+    subst (λ (x : Content). Sound all x) d.2 (subst (λ (b : List ℕ). Sound b (listed d.0)) (sym d.1.bytes_are) (sound (ended d.0) d.1.passes))
 
-pub dealt-few : (all : List ℕ) (t : Content) → Deals all t → Few t
-dealt-few all t d = subst Few d.2 (few d.0 d.1.passes.0)
+pub dealt_few : (all : List ℕ) (t : Content) → Deals all t → Few t
+dealt_few all t d = subst Few d.2 (few d.0 d.1.passes.0)
 
 -- the deck of E with number 0 alone
-pub end-alone : Deals (69 ∷ 0 ∷ 0 ∷ []) nothing
-end-alone = (none, record { bytes-are = refl; passes = (tt, record { formed = tt; stands = refl; ruled = record { room = omega arith; range = tt; fresh = tt } }) }, refl)
+pub end_alone : Deals (69 ∷ 0 ∷ 0 ∷ []) nothing
+end_alone = (none, record { bytes_are = refl; passes = (tt, record { formed = tt; stands = refl; ruled = record { room = omega arith; range = tt; fresh = tt } }) }, refl)
 
 -- tables that intake leaves hold a lawful row's entries first
-pub fits-deals : (all : List ℕ) (c : Counts) (t : Content) → Fits all c t → Deals all (firsts c t)
-fits-deals all c t f = (f.1.0, f.1.1, sym (holds-firsts _ _ _ f.1.2))
+pub fits_deals : (all : List ℕ) (c : Counts) (t : Content) → Fits all c t → Deals all (firsts c t)
+fits_deals all c t f = (f.1.0, f.1.1, sym (holds-firsts _ _ _ f.1.2))

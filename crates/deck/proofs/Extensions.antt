@@ -3,10 +3,10 @@ use Rattle.std.proofs.Common.{◌≡◌, ℕ, ◌-◌, ◌<◌, ◌≤◌, ◌�
 use lib.ListN.{length-replicate, get_or-replicate}
 use Rattle.std.proofs.lemmas.List.{get_or_append_left, get_or-append_right}
 use Rattle.std.proofs.lemmas.Bool.{cases_lt}
-use Rattle.deck.specs.Alike.{Front, Blank-from, Extends}
+use Rattle.deck.specs.Alike.{Front, BlankFrom, Extends}
 
 module _ {A : Type 0} (d : A) (xs ys : List A) where
-  pub joined : length xs ≤ length ys → Front d xs ys → Blank-from d (length xs) ys → Extends d xs ys
+  pub joined : length xs ≤ length ys → Front d xs ys → BlankFrom d (length xs) ys → Extends d xs ys
   joined le f b = record {
     long = le;
     same = ext_get_or d ys (xs ++ replicate (length ys - length xs) d)
@@ -20,7 +20,7 @@ module _ {A : Type 0} (d : A) (xs ys : List A) where
   pub front : Extends d xs ys → Front d xs ys
   front e k h = ap (λ (l : List A). get_or l k d) e.same ∙ get_or_append_left xs (replicate (length ys - length xs) d) d k h
 
-  pub blank-from : Extends d xs ys → Blank-from d (length xs) ys
-  blank-from e k h lt =
+  pub blank_from : Extends d xs ys → BlankFrom d (length xs) ys
+  blank_from e k h lt =
       let l : k - length xs < length ys - length xs = omega arith in
       ap (λ (u : List A). get_or u k d) e.same ∙ get_or-append_right xs (replicate (length ys - length xs) d) (length xs) k d refl h ∙ get_or-replicate (length ys - length xs) (k - length xs) d d l

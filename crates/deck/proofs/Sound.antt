@@ -12,12 +12,12 @@ use Rattle.rules.specs.declared.table.Reservation.{Reservation}
 use Rattle.rules.specs.declared.table.Trainee.{Trainee}
 use Rattle.rules.specs.declared.table.Contract.{Contract}
 use Rattle.rules.specs.declared.table.Barring.{Barring}
-use Rattle.rules.specs.Contents.{Content, groupAt, seatAt, reserveAt, traineeAt, contractAt, barAt}
+use Rattle.rules.specs.Contents.{Content, group_at, seat_at, reserve_at, trainee_at, contract_at, bar_at}
 use Rattle.rules.specs.Rules.{IsDredger, Printable, Ruled, current}
-use Rattle.intake.specs.Rows.{Row, none, ◌▸◌, encodes, sectionOf, listed, entry_of, groupEntry, wishEntry, pushed, Passes, Belongs}
+use Rattle.intake.specs.Rows.{Row, none, ◌▸◌, encodes, section_of, listed, entry_of, entry_of_group, entry_of_wish, pushed, Passes, Belongs}
 use Rattle.intake.proofs.Rows.{led, belongs}
 use Rattle.deck.specs.Facts.{printed, ReservesApart, LotsApart, Rising, WishesApart, BarsApart}
-use Rattle.deck.proofs.Pushes.{each-push, pairs-push}
+use Rattle.deck.proofs.Pushes.{each_push, pairs_push}
 
 -- eight bytes of 32 to 126 stand at a place
 abbrev pub NameAt : List ℕ → ℕ → Type 0
@@ -26,7 +26,7 @@ NameAt all p = (p + 8 ≤ length all) × ((i : ℕ) → i < 8 → printed (get_o
 pub record GroupOk (all : List ℕ) (gs : List Group) (k : ℕ) (a : Group) : Type 0 where
   pub earlier : (a.parent ≡ 255 → ⊥) → a.parent < k
   pub own : a.parent ≡ 255 → a.dredger ≡ k
-  pub inherited : (a.parent ≡ 255 → ⊥) → a.dredger ≡ (groupAt gs a.parent).dredger
+  pub inherited : (a.parent ≡ 255 → ⊥) → a.dredger ≡ (group_at gs a.parent).dredger
   pub topped : IsDredger gs a.dredger
   pub named : NameAt all a.name
 
@@ -36,10 +36,10 @@ pub record SeatOk (gs : List Group) (a : Seat) : Type 0 where
 
 pub record ContractOk (gs : List Group) (ts : List Trainee) (a : Contract) : Type 0 where
   pub trainee : a.trainee < length ts
-  pub lot : a.lot ≡ (traineeAt ts a.trainee).lot
-  pub flag : a.flag ≡ (traineeAt ts a.trainee).flag
+  pub lot : a.lot ≡ (trainee_at ts a.trainee).lot
+  pub flag : a.flag ≡ (trainee_at ts a.trainee).flag
   pub group : a.group < length gs
-  pub dredger : a.dredger ≡ (groupAt gs a.group).dredger
+  pub dredger : a.dredger ≡ (group_at gs a.group).dredger
   pub term : a.term ≤ 9
 
 pub record BarOk (gs : List Group) (ts : List Trainee) (a : Barring) : Type 0 where
@@ -47,33 +47,33 @@ pub record BarOk (gs : List Group) (ts : List Trainee) (a : Barring) : Type 0 wh
   pub given : IsDredger gs a.dredger
 
 pub record Sound (all : List ℕ) (t : Content) : Type 0 where
-  pub groups : (k : ℕ) → k < length t.groups → GroupOk all t.groups k (groupAt t.groups k)
-  pub seats : (k : ℕ) → k < length t.seats → SeatOk t.groups (seatAt t.seats k)
-  pub reserves : (k : ℕ) → k < length t.reserves → IsDredger t.groups (reserveAt t.reserves k).dredger
-  pub reserves-apart : ReservesApart t.reserves
-  pub trainees : (k : ℕ) → k < length t.trainees → NameAt all (traineeAt t.trainees k).name
-  pub lots-apart : LotsApart t.trainees
-  pub contracts : (k : ℕ) → k < length t.contracts → ContractOk t.groups t.trainees (contractAt t.contracts k)
+  pub groups : (k : ℕ) → k < length t.groups → GroupOk all t.groups k (group_at t.groups k)
+  pub seats : (k : ℕ) → k < length t.seats → SeatOk t.groups (seat_at t.seats k)
+  pub reserves : (k : ℕ) → k < length t.reserves → IsDredger t.groups (reserve_at t.reserves k).dredger
+  pub reserves_apart : ReservesApart t.reserves
+  pub trainees : (k : ℕ) → k < length t.trainees → NameAt all (trainee_at t.trainees k).name
+  pub lots_apart : LotsApart t.trainees
+  pub contracts : (k : ℕ) → k < length t.contracts → ContractOk t.groups t.trainees (contract_at t.contracts k)
   pub rising : Rising t.contracts
-  pub wishes-apart : WishesApart t.contracts
-  pub bars : (k : ℕ) → k < length t.bars → BarOk t.groups t.trainees (barAt t.bars k)
-  pub bars-apart : BarsApart t.bars
+  pub wishes_apart : WishesApart t.contracts
+  pub bars : (k : ℕ) → k < length t.bars → BarOk t.groups t.trainees (bar_at t.bars k)
+  pub bars_apart : BarsApart t.bars
 
 -- more bytes, more groups, more trainees
-name-wider : (b x : List ℕ) (p : ℕ) → NameAt b p → NameAt (b ++ x) p
-name-wider b x p h =
+name_wider : (b x : List ℕ) (p : ℕ) → NameAt b p → NameAt (b ++ x) p
+name_wider b x p h =
     let n = length-append b x in
     let l = h.0 in
     (omega arith, λ i lt. let k : p + i < length b = omega arith in subst (λ (y : ℕ). printed y ≡ true) (sym (get_or_append_left b x 0 (p + i) k)) (h.1 i lt))
 
-dredger-wider : (gs : List Group) (g : Group) (d : ℕ) → IsDredger gs d → IsDredger (gs ++ (g ∷ [])) d
-dredger-wider gs g d h =
+dredger_wider : (gs : List Group) (g : Group) (d : ℕ) → IsDredger gs d → IsDredger (gs ++ (g ∷ [])) d
+dredger_wider gs g d h =
     let n = length-append gs (g ∷ []) in
     let l = h.0 in
     (omega arith, ap (λ (y : Group). y.parent) (get_or_append_left gs (g ∷ []) _ d h.0) ∙ h.1)
 
-contract-groups : (gs : List Group) (ts : List Trainee) (g : Group) (a : Contract) → ContractOk gs ts a → ContractOk (gs ++ (g ∷ [])) ts a
-contract-groups gs ts g a h =
+contract_groups : (gs : List Group) (ts : List Trainee) (g : Group) (a : Contract) → ContractOk gs ts a → ContractOk (gs ++ (g ∷ [])) ts a
+contract_groups gs ts g a h =
     let n = length-append gs (g ∷ []) in
     let l = h.group in
     record {
@@ -85,8 +85,8 @@ contract-groups gs ts g a h =
       dredger = h.dredger ∙ sym (ap (λ (y : Group). y.dredger) (get_or_append_left gs (g ∷ []) _ a.group h.group));
     }
 
-contract-trainees : (gs : List Group) (ts : List Trainee) (t : Trainee) (a : Contract) → ContractOk gs ts a → ContractOk gs (ts ++ (t ∷ [])) a
-contract-trainees gs ts t a h =
+contract_trainees : (gs : List Group) (ts : List Trainee) (t : Trainee) (a : Contract) → ContractOk gs ts a → ContractOk gs (ts ++ (t ∷ [])) a
+contract_trainees gs ts t a h =
     let n = length-append ts (t ∷ []) in
     let l = h.trainee in
     let e = sym (get_or_append_left ts (t ∷ []) _ a.trainee h.trainee) in
@@ -99,38 +99,38 @@ contract-trainees gs ts t a h =
       flag = h.flag ∙ ap (λ (y : Trainee). y.flag) e;
     }
 
-group-wider : (all : List ℕ) (gs : List Group) (g : Group) (k : ℕ) (a : Group) → k ≤ length gs → GroupOk all gs k a → GroupOk all (gs ++ (g ∷ [])) k a
-group-wider all gs g k a le h = record {
+group_wider : (all : List ℕ) (gs : List Group) (g : Group) (k : ℕ) (a : Group) → k ≤ length gs → GroupOk all gs k a → GroupOk all (gs ++ (g ∷ [])) k a
+group_wider all gs g k a le h = record {
   earlier = h.earlier;
   own = h.own;
   inherited = λ ne. let lt = h.earlier ne in let l : a.parent < length gs = omega arith in
       h.inherited ne ∙ sym (ap (λ (y : Group). y.dredger) (get_or_append_left gs (g ∷ []) _ a.parent l));
-  topped = dredger-wider gs g a.dredger h.topped;
+  topped = dredger_wider gs g a.dredger h.topped;
   named = h.named;
 }
 
 -- more bytes
 wider : (b x : List ℕ) (t : Content) → Sound b t → Sound (b ++ x) t
 wider b x t h = record {
-  groups = λ k lt. let o = h.groups k lt in record { earlier = o.earlier; own = o.own; inherited = o.inherited; topped = o.topped; named = name-wider b x _ o.named };
-  trainees = λ k lt. name-wider b x _ (h.trainees k lt);
+  groups = λ k lt. let o = h.groups k lt in record { earlier = o.earlier; own = o.own; inherited = o.inherited; topped = o.topped; named = name_wider b x _ o.named };
+  trainees = λ k lt. name_wider b x _ (h.trainees k lt);
   seats = h.seats;
   reserves = h.reserves;
-  reserves-apart = h.reserves-apart;
-  lots-apart = h.lots-apart;
+  reserves_apart = h.reserves_apart;
+  lots_apart = h.lots_apart;
   contracts = h.contracts;
   rising = h.rising;
-  wishes-apart = h.wishes-apart;
+  wishes_apart = h.wishes_apart;
   bars = h.bars;
-  bars-apart = h.bars-apart;
+  bars_apart = h.bars_apart;
 }
 
 is-printed : (b : ℕ) → (32 ≤ b) × (b ≤ 126) → printed b ≡ true
 is-printed b h = let e = le-leb 32 b h.0 in let f = le-leb b 126 h.1 in cc
 
 -- the name of the record just read
-name-at : (b head n : List ℕ) → length head ≡ 4 → length n ≡ 8 → Printable n → NameAt (b ++ (head ++ n)) (length b + 4)
-name-at b head n hl nl p =
+name_at_lem : (b head n : List ℕ) → length head ≡ 4 → length n ≡ 8 → Printable n → NameAt (b ++ (head ++ n)) (length b + 4)
+name_at_lem b head n hl nl p =
     let l = length-append b (head ++ n) in
     let m = length-append head n in (
       omega arith,
@@ -144,34 +144,34 @@ name-at b head n hl nl p =
     )
 
 -- the entry of a new group
-new-group : (all : List ℕ) (t : Content) (p c q : ℕ) → ((p ≡ 255 → ⊥) → p < length t.groups) → NameAt all (q + 4) → Sound all t →
-    GroupOk all (t.groups ++ (groupEntry t q p c ∷ [])) (length t.groups) (groupEntry t q p c)
-new-group all t p c q h m s = elim (cases_Bool (eqb p 255)) [ inl e ↦ root e | inr e ↦ inner e ]
+new_group : (all : List ℕ) (t : Content) (p c q : ℕ) → ((p ≡ 255 → ⊥) → p < length t.groups) → NameAt all (q + 4) → Sound all t →
+    GroupOk all (t.groups ++ (entry_of_group t q p c ∷ [])) (length t.groups) (entry_of_group t q p c)
+new_group all t p c q h m s = elim (cases_Bool (eqb p 255)) [ inl e ↦ root e | inr e ↦ inner e ]
   where
-    root : eqb p 255 ≡ true → GroupOk all (t.groups ++ (groupEntry t q p c ∷ [])) (length t.groups) (groupEntry t q p c)
+    root : eqb p 255 ≡ true → GroupOk all (t.groups ++ (entry_of_group t q p c ∷ [])) (length t.groups) (entry_of_group t q p c)
     root b =
         let e = eqb-true p 255 b in
-        let z = ap (λ (y : Bool). cond y (length t.groups) (groupAt t.groups p).dredger) b in
-        let n = length-append t.groups (groupEntry t q p c ∷ []) in
+        let z = ap (λ (y : Bool). cond y (length t.groups) (group_at t.groups p).dredger) b in
+        let n = length-append t.groups (entry_of_group t q p c ∷ []) in
         record {
           earlier = λ ne. absurd (ne e);
           own = λ _. z;
           inherited = λ ne. absurd (ne e);
-          topped = subst (λ (d : ℕ). IsDredger (t.groups ++ (groupEntry t q p c ∷ [])) d) (sym z)
-              (omega arith, ap (λ (y : Group). y.parent) (get_or_push t.groups (groupEntry t q p c) _ (length t.groups) refl) ∙ e);
+          topped = subst (λ (d : ℕ). IsDredger (t.groups ++ (entry_of_group t q p c ∷ [])) d) (sym z)
+              (omega arith, ap (λ (y : Group). y.parent) (get_or_push t.groups (entry_of_group t q p c) _ (length t.groups) refl) ∙ e);
           named = m;
         }
 
-    inner : eqb p 255 ≡ false → GroupOk all (t.groups ++ (groupEntry t q p c ∷ [])) (length t.groups) (groupEntry t q p c)
+    inner : eqb p 255 ≡ false → GroupOk all (t.groups ++ (entry_of_group t q p c ∷ [])) (length t.groups) (entry_of_group t q p c)
     inner b =
         let ne = eqb-false p 255 b in
-        let z = ap (λ (y : Bool). cond y (length t.groups) (groupAt t.groups p).dredger) b in
+        let z = ap (λ (y : Bool). cond y (length t.groups) (group_at t.groups p).dredger) b in
         let lt = h ne in
         record {
           earlier = h;
           own = λ e. absurd (ne e);
-          inherited = λ _. z ∙ sym (ap (λ (y : Group). y.dredger) (get_or_append_left t.groups (groupEntry t q p c ∷ []) _ p lt));
-          topped = subst (λ (d : ℕ). IsDredger (t.groups ++ (groupEntry t q p c ∷ [])) d) (sym z) (dredger-wider t.groups (groupEntry t q p c) _ (s.groups p lt).topped);
+          inherited = λ _. z ∙ sym (ap (λ (y : Group). y.dredger) (get_or_append_left t.groups (entry_of_group t q p c ∷ []) _ p lt));
+          topped = subst (λ (d : ℕ). IsDredger (t.groups ++ (entry_of_group t q p c ∷ [])) d) (sym z) (dredger_wider t.groups (entry_of_group t q p c) _ (s.groups p lt).topped);
           named = m;
         }
 
@@ -180,104 +180,104 @@ sound_more : (b : List ℕ) (t : Content) (r : Record) → Formed r → Ruled t 
 sound_more b t (R.Group p c n) f u o s0 =
     let all = b ++ encode (R.Group p c n) in
     let s = wider b (encode (R.Group p c n)) t s0 in
-    let g = groupEntry t (length b) p c in
-    let m : NameAt all (length b + 4) = name-at b (71 ∷ p ∷ _ ∷ _ ∷ []) n refl f u.range.1 in
+    let g = entry_of_group t (length b) p c in
+    let m : NameAt all (length b + 4) = name_at_lem b (71 ∷ p ∷ _ ∷ _ ∷ []) n refl f u.range.1 in
     record {
-      groups = each-push _ t.groups g (λ k a. GroupOk all (t.groups ++ (g ∷ [])) k a) (λ k lt. group-wider all t.groups g k _ (omega arith) (s.groups k lt)) (new-group all t p c (length b) u.range.0 m s);
-      seats = λ k lt. record { given = dredger-wider t.groups g _ (s.seats k lt).given; rule = (s.seats k lt).rule };
-      reserves = λ k lt. dredger-wider t.groups g _ (s.reserves k lt);
-      contracts = λ k lt. contract-groups t.groups t.trainees g _ (s.contracts k lt);
-      bars = λ k lt. record { trainee = (s.bars k lt).trainee; given = dredger-wider t.groups g _ (s.bars k lt).given };
-      reserves-apart = s.reserves-apart;
+      groups = each_push _ t.groups g (λ k a. GroupOk all (t.groups ++ (g ∷ [])) k a) (λ k lt. group_wider all t.groups g k _ (omega arith) (s.groups k lt)) (new_group all t p c (length b) u.range.0 m s);
+      seats = λ k lt. record { given = dredger_wider t.groups g _ (s.seats k lt).given; rule = (s.seats k lt).rule };
+      reserves = λ k lt. dredger_wider t.groups g _ (s.reserves k lt);
+      contracts = λ k lt. contract_groups t.groups t.trainees g _ (s.contracts k lt);
+      bars = λ k lt. record { trainee = (s.bars k lt).trainee; given = dredger_wider t.groups g _ (s.bars k lt).given };
+      reserves_apart = s.reserves_apart;
       trainees = s.trainees;
-      lots-apart = s.lots-apart;
+      lots_apart = s.lots_apart;
       rising = s.rising;
-      wishes-apart = s.wishes-apart;
-      bars-apart = s.bars-apart;
+      wishes_apart = s.wishes_apart;
+      bars_apart = s.bars_apart;
     }
 sound_more b t (R.Seat d q) f u o s0 =
     let s = wider b (encode (R.Seat d q)) t s0 in
     record {
-      seats = each-push _ t.seats _ (λ k a. SeatOk t.groups a) s.seats (record { given = u.range.0; rule = u.range.1 });
+      seats = each_push _ t.seats _ (λ k a. SeatOk t.groups a) s.seats (record { given = u.range.0; rule = u.range.1 });
       groups = s.groups;
       reserves = s.reserves;
-      reserves-apart = s.reserves-apart;
+      reserves_apart = s.reserves_apart;
       trainees = s.trainees;
-      lots-apart = s.lots-apart;
+      lots_apart = s.lots_apart;
       contracts = s.contracts;
       rising = s.rising;
-      wishes-apart = s.wishes-apart;
+      wishes_apart = s.wishes_apart;
       bars = s.bars;
-      bars-apart = s.bars-apart;
+      bars_apart = s.bars_apart;
     }
 sound_more b t (R.Reserve d q) f u o s0 =
     let s = wider b (encode (R.Reserve d q)) t s0 in
     record {
-      reserves = each-push _ t.reserves _ (λ k a. IsDredger t.groups a.dredger) s.reserves u.range;
-      reserves-apart = pairs-push _ t.reserves _ (λ (x y : Reservation). x.dredger ≡ y.dredger → ⊥) s.reserves-apart u.fresh;
+      reserves = each_push _ t.reserves _ (λ k a. IsDredger t.groups a.dredger) s.reserves u.range;
+      reserves_apart = pairs_push _ t.reserves _ (λ (x y : Reservation). x.dredger ≡ y.dredger → ⊥) s.reserves_apart u.fresh;
       groups = s.groups;
       seats = s.seats;
       trainees = s.trainees;
-      lots-apart = s.lots-apart;
+      lots_apart = s.lots_apart;
       contracts = s.contracts;
       rising = s.rising;
-      wishes-apart = s.wishes-apart;
+      wishes_apart = s.wishes_apart;
       bars = s.bars;
-      bars-apart = s.bars-apart;
+      bars_apart = s.bars_apart;
     }
 sound_more b t (R.Trainee l g n) f u o s0 =
     let all = b ++ encode (R.Trainee l g n) in
     let s = wider b (encode (R.Trainee l g n)) t s0 in
     let e : Trainee = record { lot = l; flag = eqb g 1; name = length b + 4 } in
-    let m : NameAt all (length b + 4) = name-at b (84 ∷ _ ∷ _ ∷ g ∷ []) n refl f u.range.1 in
+    let m : NameAt all (length b + 4) = name_at_lem b (84 ∷ _ ∷ _ ∷ g ∷ []) n refl f u.range.1 in
     let w = length-append t.trainees (e ∷ []) in
     record {
-      trainees = each-push _ t.trainees e (λ k a. NameAt all a.name) s.trainees m;
-      lots-apart = pairs-push _ t.trainees e (λ (x y : Trainee). x.lot ≡ y.lot → ⊥) s.lots-apart u.fresh;
-      contracts = λ k lt. contract-trainees t.groups t.trainees e _ (s.contracts k lt);
+      trainees = each_push _ t.trainees e (λ k a. NameAt all a.name) s.trainees m;
+      lots_apart = pairs_push _ t.trainees e (λ (x y : Trainee). x.lot ≡ y.lot → ⊥) s.lots_apart u.fresh;
+      contracts = λ k lt. contract_trainees t.groups t.trainees e _ (s.contracts k lt);
       bars = λ k lt. let h = s.bars k lt in let i = h.trainee in record { trainee = omega arith; given = h.given };
       groups = s.groups;
       seats = s.seats;
       reserves = s.reserves;
-      reserves-apart = s.reserves-apart;
+      reserves_apart = s.reserves_apart;
       rising = s.rising;
-      wishes-apart = s.wishes-apart;
-      bars-apart = s.bars-apart;
+      wishes_apart = s.wishes_apart;
+      bars_apart = s.bars_apart;
     }
 sound_more b t (R.Wish g p m) f u o s0 =
     let s = wider b (encode (R.Wish g p m)) t s0 in
-    let e = wishEntry t g p m in
+    let e = entry_of_wish t g p m in
     let cur : current t < length t.trainees = omega arith in
     record {
-      contracts = each-push _ t.contracts e (λ k a. ContractOk t.groups t.trainees a) s.contracts
+      contracts = each_push _ t.contracts e (λ k a. ContractOk t.groups t.trainees a) s.contracts
           (record { trainee = cur; lot = refl; flag = refl; group = u.range.0; dredger = refl; term = u.range.1 });
-      rising = pairs-push _ t.contracts e (λ (x y : Contract). x.trainee ≤ y.trainee) s.rising (λ i lt. let h = (s.contracts i lt).trainee in omega arith);
-      wishes-apart = pairs-push _ t.contracts e (λ (x y : Contract). (x.trainee ≡ y.trainee) × (x.dredger ≡ y.dredger) → ⊥) s.wishes-apart (λ i lt q. u.fresh i lt q.0 q.1);
+      rising = pairs_push _ t.contracts e (λ (x y : Contract). x.trainee ≤ y.trainee) s.rising (λ i lt. let h = (s.contracts i lt).trainee in omega arith);
+      wishes_apart = pairs_push _ t.contracts e (λ (x y : Contract). (x.trainee ≡ y.trainee) × (x.dredger ≡ y.dredger) → ⊥) s.wishes_apart (λ i lt q. u.fresh i lt q.0 q.1);
       groups = s.groups;
       seats = s.seats;
       reserves = s.reserves;
-      reserves-apart = s.reserves-apart;
+      reserves_apart = s.reserves_apart;
       trainees = s.trainees;
-      lots-apart = s.lots-apart;
+      lots_apart = s.lots_apart;
       bars = s.bars;
-      bars-apart = s.bars-apart;
+      bars_apart = s.bars_apart;
     }
 sound_more b t (R.Bar d) f u o s0 =
     let s = wider b (encode (R.Bar d)) t s0 in
     let e : Barring = record { trainee = current t; dredger = d } in
     let cur : current t < length t.trainees = omega arith in
     record {
-      bars = each-push _ t.bars e (λ k a. BarOk t.groups t.trainees a) s.bars (record { trainee = cur; given = u.range });
-      bars-apart = pairs-push _ t.bars e (λ (x y : Barring). (x.trainee ≡ y.trainee) × (x.dredger ≡ y.dredger) → ⊥) s.bars-apart (λ i lt q. u.fresh i lt q.0 q.1);
+      bars = each_push _ t.bars e (λ k a. BarOk t.groups t.trainees a) s.bars (record { trainee = cur; given = u.range });
+      bars_apart = pairs_push _ t.bars e (λ (x y : Barring). (x.trainee ≡ y.trainee) × (x.dredger ≡ y.dredger) → ⊥) s.bars_apart (λ i lt q. u.fresh i lt q.0 q.1);
       groups = s.groups;
       seats = s.seats;
       reserves = s.reserves;
-      reserves-apart = s.reserves-apart;
+      reserves_apart = s.reserves_apart;
       trainees = s.trainees;
-      lots-apart = s.lots-apart;
+      lots_apart = s.lots_apart;
       contracts = s.contracts;
       rising = s.rising;
-      wishes-apart = s.wishes-apart;
+      wishes_apart = s.wishes_apart;
     }
 sound_more b t (R.End n) f u o s0 = wider b (encode (R.End n)) t s0
 
@@ -286,14 +286,14 @@ sound none p = record {
   groups = λ k lt. absurd (omega arith);
   seats = λ k lt. absurd (omega arith);
   reserves = λ k lt. absurd (omega arith);
-  reserves-apart = λ i j ij. absurd (omega arith);
+  reserves_apart = λ i j ij. absurd (omega arith);
   trainees = λ k lt. absurd (omega arith);
-  lots-apart = λ i j ij. absurd (omega arith);
+  lots_apart = λ i j ij. absurd (omega arith);
   contracts = λ k lt. absurd (omega arith);
   rising = λ i j ij. absurd (omega arith);
-  wishes-apart = λ i j ij. absurd (omega arith);
+  wishes_apart = λ i j ij. absurd (omega arith);
   bars = λ k lt. absurd (omega arith);
-  bars-apart = λ i j ij. absurd (omega arith);
+  bars_apart = λ i j ij. absurd (omega arith);
 }
 sound (rs ▸ r) p =
-    sound_more (encodes rs) (listed rs) r p.1.formed p.1.ruled (belongs (sectionOf rs) (listed rs) r p.1.stands (led rs p.0)) (sound rs p.0)
+    sound_more (encodes rs) (listed rs) r p.1.formed p.1.ruled (belongs (section_of rs) (listed rs) r p.1.stands (led rs p.0)) (sound rs p.0)

@@ -1,6 +1,6 @@
 // Whether tables are those that intake leaves.
 ghost use Rattle.deck.specs.Alike.{Fits, Matches};
-ghost use Rattle.rules.specs.Contents.{contentOf};
+ghost use Rattle.rules.specs.Contents.{content_of};
 ghost use Rattle.std.specs.Prelude.{Decides};
 
 use crate::same::extends;
@@ -11,7 +11,7 @@ use rules::table::{
 };
 
 fn matches(own: Tables, had: Counts, given: Tables, counts: Counts) -> bool
-    ensures { Decides result (Matches (contentOf own.entry) had (contentOf given.entry) counts) }
+    ensures { Decides result (Matches (content_of own.entry) had (content_of given.entry) counts) }
 {
     had == counts
         && extends(own.groups, given.groups)
@@ -24,7 +24,7 @@ fn matches(own: Tables, had: Counts, given: Tables, counts: Counts) -> bool
 
 // Takes the deck in once more, into tables of its own, and compares.
 pub fn agrees(bytes: &[u8], given: Tables, counts: Counts) -> bool
-    ensures { Decides result (Fits bytes.now counts (contentOf given.entry)) }
+    ensures { Decides result (Fits bytes.now counts (content_of given.entry)) }
 {
     let mut groups = [NO_GROUP; 64];
     let mut seats = [NO_SEAT; 256];

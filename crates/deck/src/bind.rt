@@ -3,7 +3,7 @@ ghost use Rattle.deck.specs.Alike.{Fits};
 ghost use Rattle.deck.specs.Binding.{Bound};
 ghost use Rattle.deck.specs.Contents.{bytes_of, data_of};
 ghost use Rattle.intake.specs.Firsts.{firsts};
-ghost use Rattle.rules.specs.Contents.{contentOf};
+ghost use Rattle.rules.specs.Contents.{content_of};
 ghost use Rattle.std.specs.Prelude.{◌≡◌};
 
 use crate::agree::agrees;
@@ -15,9 +15,9 @@ use rules::table::Tables;
 impl<'a> Deck<'a> {
     // The deck of these bytes, and of the entries of tables that intake leaves.
     fn counted(bytes: &'a [u8], tables: Tables<'a>, counts: Counts) -> Deck<'a>
-        requires { Fits bytes.now counts (contentOf tables) }
+        requires { Fits bytes.now counts (content_of tables) }
         ensures bytes { bytes_of result ≡ bytes.now }
-        ensures entries { data_of result ≡ firsts counts (contentOf tables.entry) }
+        ensures entries { data_of result ≡ firsts counts (content_of tables.entry) }
     {
         Deck::made(bytes, counts.firsts(tables))
     }
@@ -29,7 +29,7 @@ impl<'a> Deck<'a> {
         tables: Tables<'a>,
         counts: Counts,
     ) -> Result<(), DeckFault>
-        ensures { Bound bytes.now counts (contentOf tables.entry) self.old self.new result }
+        ensures { Bound bytes.now counts (content_of tables.entry) self.old self.new result }
     {
         if !agrees(bytes, tables, counts) {
             return Err(DeckFault::OtherTables);

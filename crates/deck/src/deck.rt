@@ -5,7 +5,7 @@ ghost use Rattle.deck.specs.Facts.{Inherited, LotsApart, LotsCarried, Own, Reser
 ghost use Rattle.deck.specs.Facts.{TraineeNames, TraineesGiven, TraineesPrinted, WishesApart};
 ghost use Rattle.deck.specs.Lawful.{Deals};
 ghost use Rattle.intake.specs.Fillings.{tables};
-ghost use Rattle.rules.specs.Contents.{contentOf, nothing};
+ghost use Rattle.rules.specs.Contents.{content_of, nothing};
 
 mod reads;
 
@@ -87,10 +87,10 @@ impl<'a> Deck<'a> {
 
     // The deck of these bytes and entries, which a lawful row gives.
     pub(crate) fn made(bytes: &'a [u8], entries: Tables<'a>) -> Deck<'a>
-        requires { Deals bytes.now (contentOf entries) }
+        requires { Deals bytes.now (content_of entries) }
         ensures bytes { result.bytes.now ≡ bytes.now }
         ensures entries { tables result.groups.now result.seats.now result.reserves.now result.trainees.now result.contracts.now result.bars.now
-            ≡ contentOf entries.entry }
+            ≡ content_of entries.entry }
     {
         let Tables {
             groups,

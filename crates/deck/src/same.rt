@@ -1,8 +1,8 @@
 // Comparing a table with another that may be longer.
 ghost use Rattle.std.specs.Prelude.{◌≡◌, ℕ, ◌-◌, ◌<◌, ◌≤◌, length, Decides};
-ghost use Rattle.deck.specs.Alike.{Blank-from, Extends, Front};
-ghost use Rattle.intake.specs.Fillings.{noGroup};
-ghost use Rattle.rules.specs.Contents.{zeroBarring, zeroContract, zeroReservation, zeroSeat, zeroTrainee};
+ghost use Rattle.deck.specs.Alike.{BlankFrom, Extends, Front};
+ghost use Rattle.intake.specs.Fillings.{no_group};
+ghost use Rattle.rules.specs.Contents.{zero_barring, zero_contract, zero_reservation, zero_seat, zero_trainee};
 
 use rules::table::{
     Barring, Contract, Group, NO_BARRING, NO_CONTRACT, NO_GROUP, NO_RESERVATION, NO_SEAT,
@@ -21,7 +21,7 @@ pub trait Entry: Copy {
 }
 
 impl Entry for Group {
-    ghost blank = { noGroup };
+    ghost blank = { no_group };
 
     fn blank() -> Group {
         NO_GROUP
@@ -33,7 +33,7 @@ impl Entry for Group {
 }
 
 impl Entry for Seat {
-    ghost blank = { zeroSeat };
+    ghost blank = { zero_seat };
 
     fn blank() -> Seat {
         NO_SEAT
@@ -45,7 +45,7 @@ impl Entry for Seat {
 }
 
 impl Entry for Reservation {
-    ghost blank = { zeroReservation };
+    ghost blank = { zero_reservation };
 
     fn blank() -> Reservation {
         NO_RESERVATION
@@ -57,7 +57,7 @@ impl Entry for Reservation {
 }
 
 impl Entry for Trainee {
-    ghost blank = { zeroTrainee };
+    ghost blank = { zero_trainee };
 
     fn blank() -> Trainee {
         NO_TRAINEE
@@ -69,7 +69,7 @@ impl Entry for Trainee {
 }
 
 impl Entry for Contract {
-    ghost blank = { zeroContract };
+    ghost blank = { zero_contract };
 
     fn blank() -> Contract {
         NO_CONTRACT
@@ -81,7 +81,7 @@ impl Entry for Contract {
 }
 
 impl Entry for Barring {
-    ghost blank = { zeroBarring };
+    ghost blank = { zero_barring };
 
     fn blank() -> Barring {
         NO_BARRING
@@ -106,7 +106,7 @@ fn begins<T: Entry>(own: &[T], given: &[T]) -> bool
 }
 
 fn is_blank_from<T: Entry>(given: &[T], n: usize) -> bool
-    ensures { Decides result (Blank-from T.Entry.blank n given.now) }
+    ensures { Decides result (BlankFrom T.Entry.blank n given.now) }
 {
     let blank = T::blank();
     for i in n..given.len() {

@@ -6,10 +6,10 @@ use Rattle.format.specs.declared.fault.Layer.TheVariants.{Bytes}
 use Rattle.format.specs.declared.fault.Refusal.{Refusal}
 
 -- a refusal by this layer, with its number and place
-abbrev pub byBytes : ℕ → ℕ → Refusal
-byBytes n p = record { number = n; place = p; layer = Bytes }
+abbrev pub by_bytes : ℕ → ℕ → Refusal
+by_bytes n p = record { number = n; place = p; layer = Bytes }
 
-abbrev pub byteRefusal : ByteFault → Refusal
-byteRefusal (NoByte p) = byBytes 3 p
-byteRefusal (NoKind p) = byBytes 4 p
-byteRefusal (Short p) = byBytes 6 p
+abbrev pub byte_refusal : ByteFault → Refusal
+byte_refusal (NoByte p) = by_bytes 3 p
+byte_refusal (NoKind p) = by_bytes 4 p
+byte_refusal (Short p) = by_bytes 6 p

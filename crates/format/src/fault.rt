@@ -1,5 +1,5 @@
 // A fault of the byte layer, and what any fault is told by: number, place and layer.
-ghost use Rattle.format.specs.Refusals.{byBytes, byteRefusal};
+ghost use Rattle.format.specs.Refusals.{by_bytes, byte_refusal};
 ghost use Rattle.std.specs.Prelude.{◌≡◌};
 
 #[derive(Clone, Copy, PartialEq, Eq, Debug)]
@@ -25,7 +25,7 @@ pub struct Refusal {
 
 // A refusal by this layer.
 fn at(number: u8, place: usize) -> Refusal
-    ensures { result ≡ byBytes number place }
+    ensures { result ≡ by_bytes number place }
 {
     Refusal {
         number,
@@ -36,7 +36,7 @@ fn at(number: u8, place: usize) -> Refusal
 
 impl ByteFault {
     pub fn refusal(&self) -> Refusal
-        ensures { result ≡ byteRefusal self.now }
+        ensures { result ≡ byte_refusal self.now }
     {
         match self {
             ByteFault::NoByte { place } => at(3, *place),

@@ -4,31 +4,31 @@ use mathlib.Core.Path.{fun_ext}
 use Rattle.std.proofs.lemmas.Bool.{or_cases}
 use Rattle.matching.specs.Sets.{Set, union, Within}
 use Rattle.matching.specs.Choices.{Choice, Lawful}
-use Rattle.matching.proofs.Paths.{settled, path-independent}
-use Rattle.matching.proofs.Sets.{within-part}
+use Rattle.matching.proofs.Paths.{settled, path_independent}
+use Rattle.matching.proofs.Sets.{within_part}
 use Rattle.board.specs.declared.unfit.Unfit.{Unfit}
 use Rattle.board.specs.Marks.{member, marked}
 use Rattle.board.specs.Calls.{Chosen}
 use Rattle.board.proofs.Marking.{member-within, member-marked, length_marked, put}
-use Rattle.board.proofs.Through.{marks-fit}
+use Rattle.board.proofs.Through.{marks_fit}
 use Rattle.guest.specs.Shortlists.{Shortlisted}
 
 small : (n : ℕ) (f : Choice) → Lawful n f → (X : Set) → Within n X → Within n (f X)
-small n f law X w = within-part n (f X) X w (law.part X w)
+small n f law X w = within_part n (f X) X w (law.part X w)
 
-pub chosen-twice : (f : Choice) (n : ℕ) → Lawful n f → (before mid after : List ℕ) (r : Result Unit Unfit)
+pub chosen_twice : (f : Choice) (n : ℕ) → Lawful n f → (before mid after : List ℕ) (r : Result Unit Unfit)
     → (length before ≡ n) × (mid ≡ marked n (f (member before))) → Chosen f n mid after r → Chosen f n before after r
-chosen-twice f n law before mid after (Ok x) h c = (h.0, c.1 ∙ ap (λ (X : Set). marked n (f X)) seen ∙ ap (marked n) (settled n f law (member before) w))
+chosen_twice f n law before mid after (Ok x) h c = (h.0, c.1 ∙ ap (λ (X : Set). marked n (f X)) seen ∙ ap (marked n) (settled n f law (member before) w))
   where
     w : Within n (member before)
     w = member-within before n h.0
 
     seen : member mid ≡ f (member before)
     seen = ap member h.1 ∙ member-marked n (f (member before)) (small n f law (member before) w)
-chosen-twice f n law before mid after (Err e) h c = absurd (marks-fit n mid e (ap length h.1 ∙ length_marked n (f (member before))) c.0)
+chosen_twice f n law before mid after (Err e) h c = absurd (marks_fit n mid e (ap length h.1 ∙ length_marked n (f (member before))) c.0)
 
-union-flip : (X Y : Set) → union X Y ≡ union Y X
-union-flip X Y = fun_ext (λ k. flip (X k) (Y k))
+union_flip : (X Y : Set) → union X Y ≡ union Y X
+union_flip X Y = fun_ext (λ k. flip (X k) (Y k))
   where
     flip : (a b : Bool) → (a || b) ≡ (b || a)
     flip true true = refl
@@ -63,9 +63,9 @@ shortlisted f n law xs ys xs1 ys1 joined after r a b l h c = at r c
     w k e = ⊎_elim (λ i. small n f law (member ys) wy k i) (λ i. small n f law (member xs) wx k i) (or_cases (f (member ys) k) (f (member xs) k) e)
 
     read : member joined ≡ union (f (member xs)) (f (member ys))
-    read = ap member both ∙ member-marked n (union (f (member ys)) (f (member xs))) w ∙ union-flip (f (member ys)) (f (member xs))
+    read = ap member both ∙ member-marked n (union (f (member ys)) (f (member xs))) w ∙ union_flip (f (member ys)) (f (member xs))
 
     at : (r : Result Unit Unfit) → Chosen f n joined after r → Shortlisted f n xs ys after ys1 r
     at (Ok x) c =
-        (a.0, b.0, c.1 ∙ ap (λ (X : Set). marked n (f X)) read ∙ ap (marked n) (sym (path-independent n f law (member xs) (member ys) wx wy)), b.1)
-    at (Err e) c = absurd (marks-fit n joined e (l ∙ long) c.0)
+        (a.0, b.0, c.1 ∙ ap (λ (X : Set). marked n (f X)) read ∙ ap (marked n) (sym (path_independent n f law (member xs) (member ys) wx wy)), b.1)
+    at (Err e) c = absurd (marks_fit n joined e (l ∙ long) c.0)

@@ -1,13 +1,13 @@
 -- A board that asks for points, and has room for everybody.
 use Rattle.std.specs.Prelude.{ℕ, Bool, ◌&&◌, List, nat_le}
 use Rattle.rules.specs.declared.table.Contract.{Contract}
-use Rattle.rules.specs.Contents.{contractAt}
+use Rattle.rules.specs.Contents.{contract_at}
 use Rattle.matching.specs.Sets.{Set}
 use Rattle.matching.specs.Choices.{Choice}
 
 -- the contracts with at least so many points
 abbrev pub enough : ℕ → List Contract → Set
-enough least cs k = nat_le least (contractAt cs k).points
+enough least cs k = nat_le least (contract_at cs k).points
 
 -- of a list, those with enough points are kept
 abbrev pub keeps : ℕ → List Contract → Choice

@@ -5,13 +5,13 @@ use Rattle.format.specs.declared.record.Kind.TheVariants as K
 use Rattle.format.specs.declared.record.Record.{Record}
 use Rattle.format.specs.declared.record.Record.TheVariants as R
 use Rattle.format.specs.Layout.{kind, encode, size, Formed}
-use Rattle.format.proofs.Unique.{encode-size}
+use Rattle.format.proofs.Unique.{encode_size}
 use Rattle.rules.specs.declared.section.Section.{Section}
 use Rattle.rules.specs.declared.section.Section.TheVariants.{Groups, Seats, Reserves, Trainees, Closed}
 use Rattle.rules.specs.Contents.{Content}
 use Rattle.rules.specs.Order.{may, after}
 use Rattle.rules.specs.Rules.{entries, most, Room, Allowed}
-use Rattle.intake.specs.Rows.{Row, none, ◌▸◌, encodes, sectionOf, listed, entry_of, pushed, Passes, Led, Belongs}
+use Rattle.intake.specs.Rows.{Row, none, ◌▸◌, encodes, section_of, listed, entry_of, pushed, Passes, Led, Belongs}
 
 -- no table has more than its most
 pub record Few (t : Content) : Type 0 where
@@ -25,43 +25,43 @@ pub record Few (t : Content) : Type 0 where
 more : {A : Type 0} (xs : List A) (x : A) (n : ℕ) → length xs < n → length (xs ++ (x ∷ [])) ≤ n
 more xs x n h = simp length-append (omega arith)
 
-few-more : (t : Content) (p : ℕ) (r : Record) → Few t → Room t (kind r) → Few (pushed t (entry_of t p r))
-few-more t p (R.Group q c n) h m = record { groups = more t.groups _ 64 m; seats = h.seats; reserves = h.reserves; trainees = h.trainees; contracts = h.contracts; bars = h.bars }
-few-more t p (R.Seat d r) h m = record { groups = h.groups; seats = more t.seats _ 256 m; reserves = h.reserves; trainees = h.trainees; contracts = h.contracts; bars = h.bars }
-few-more t p (R.Reserve d s) h m = record { groups = h.groups; seats = h.seats; reserves = more t.reserves _ 64 m; trainees = h.trainees; contracts = h.contracts; bars = h.bars }
-few-more t p (R.Trainee l f n) h m = record { groups = h.groups; seats = h.seats; reserves = h.reserves; trainees = more t.trainees _ 256 m; contracts = h.contracts; bars = h.bars }
-few-more t p (R.Wish g s e) h m = record { groups = h.groups; seats = h.seats; reserves = h.reserves; trainees = h.trainees; contracts = more t.contracts _ 2048 m; bars = h.bars }
-few-more t p (R.Bar d) h m = record { groups = h.groups; seats = h.seats; reserves = h.reserves; trainees = h.trainees; contracts = h.contracts; bars = more t.bars _ 128 m }
-few-more t p (R.End n) h m = h
+few_more : (t : Content) (p : ℕ) (r : Record) → Few t → Room t (kind r) → Few (pushed t (entry_of t p r))
+few_more t p (R.Group q c n) h m = record { groups = more t.groups _ 64 m; seats = h.seats; reserves = h.reserves; trainees = h.trainees; contracts = h.contracts; bars = h.bars }
+few_more t p (R.Seat d r) h m = record { groups = h.groups; seats = more t.seats _ 256 m; reserves = h.reserves; trainees = h.trainees; contracts = h.contracts; bars = h.bars }
+few_more t p (R.Reserve d s) h m = record { groups = h.groups; seats = h.seats; reserves = more t.reserves _ 64 m; trainees = h.trainees; contracts = h.contracts; bars = h.bars }
+few_more t p (R.Trainee l f n) h m = record { groups = h.groups; seats = h.seats; reserves = h.reserves; trainees = more t.trainees _ 256 m; contracts = h.contracts; bars = h.bars }
+few_more t p (R.Wish g s e) h m = record { groups = h.groups; seats = h.seats; reserves = h.reserves; trainees = h.trainees; contracts = more t.contracts _ 2048 m; bars = h.bars }
+few_more t p (R.Bar d) h m = record { groups = h.groups; seats = h.seats; reserves = h.reserves; trainees = h.trainees; contracts = h.contracts; bars = more t.bars _ 128 m }
+few_more t p (R.End n) h m = h
 
 pub few : (rs : Row) → Passes rs → Few (listed rs)
 few none p = record { groups = omega arith; seats = omega arith; reserves = omega arith; trainees = omega arith; contracts = omega arith; bars = omega arith }
-few (rs ▸ r) p = few-more (listed rs) _ r (few rs p.0) p.1.ruled.room
+few (rs ▸ r) p = few_more (listed rs) _ r (few rs p.0) p.1.ruled.room
 
 -- a wish or a bar stands in the trainees' part
-wish-part : (s : Section) → may s K.Wish ≡ true → s ≡ Trainees
-wish-part Groups e = let z : ◌≡◌ {A = ℕ} 0 1 = cc in absurd (omega arith)
-wish-part Seats e = let z : ◌≡◌ {A = ℕ} 0 1 = cc in absurd (omega arith)
-wish-part Reserves e = let z : ◌≡◌ {A = ℕ} 0 1 = cc in absurd (omega arith)
-wish-part Trainees e = refl
-wish-part Closed e = let z : ◌≡◌ {A = ℕ} 0 1 = cc in absurd (omega arith)
+wish_part : (s : Section) → may s K.Wish ≡ true → s ≡ Trainees
+wish_part Groups e = let z : ◌≡◌ {A = ℕ} 0 1 = cc in absurd (omega arith)
+wish_part Seats e = let z : ◌≡◌ {A = ℕ} 0 1 = cc in absurd (omega arith)
+wish_part Reserves e = let z : ◌≡◌ {A = ℕ} 0 1 = cc in absurd (omega arith)
+wish_part Trainees e = refl
+wish_part Closed e = let z : ◌≡◌ {A = ℕ} 0 1 = cc in absurd (omega arith)
 
-bar-part : (s : Section) → may s K.Bar ≡ true → s ≡ Trainees
-bar-part Groups e = let z : ◌≡◌ {A = ℕ} 0 1 = cc in absurd (omega arith)
-bar-part Seats e = let z : ◌≡◌ {A = ℕ} 0 1 = cc in absurd (omega arith)
-bar-part Reserves e = let z : ◌≡◌ {A = ℕ} 0 1 = cc in absurd (omega arith)
-bar-part Trainees e = refl
-bar-part Closed e = let z : ◌≡◌ {A = ℕ} 0 1 = cc in absurd (omega arith)
+bar_part : (s : Section) → may s K.Bar ≡ true → s ≡ Trainees
+bar_part Groups e = let z : ◌≡◌ {A = ℕ} 0 1 = cc in absurd (omega arith)
+bar_part Seats e = let z : ◌≡◌ {A = ℕ} 0 1 = cc in absurd (omega arith)
+bar_part Reserves e = let z : ◌≡◌ {A = ℕ} 0 1 = cc in absurd (omega arith)
+bar_part Trainees e = refl
+bar_part Closed e = let z : ◌≡◌ {A = ℕ} 0 1 = cc in absurd (omega arith)
 
 -- in the trainees' part there is a trainee
-pub led : (rs : Row) → Passes rs → Led (sectionOf rs) (listed rs)
+pub led : (rs : Row) → Passes rs → Led (section_of rs) (listed rs)
 led none p e = let z : ◌≡◌ {A = ℕ} 0 1 = cc in absurd (omega arith)
 led (rs ▸ R.Group q c n) p e = let z : ◌≡◌ {A = ℕ} 0 1 = cc in absurd (omega arith)
 led (rs ▸ R.Seat d r) p e = let z : ◌≡◌ {A = ℕ} 0 1 = cc in absurd (omega arith)
 led (rs ▸ R.Reserve d s) p e = let z : ◌≡◌ {A = ℕ} 0 1 = cc in absurd (omega arith)
 led (rs ▸ R.Trainee l f n) p e = simp length-append (omega arith)
-led (rs ▸ R.Wish g s m) p e = led rs p.0 (wish-part (sectionOf rs) p.1.stands)
-led (rs ▸ R.Bar d) p e = led rs p.0 (bar-part (sectionOf rs) p.1.stands)
+led (rs ▸ R.Wish g s m) p e = led rs p.0 (wish_part (section_of rs) p.1.stands)
+led (rs ▸ R.Bar d) p e = led rs p.0 (bar_part (section_of rs) p.1.stands)
 led (rs ▸ R.End n) p e = let z : ◌≡◌ {A = ℕ} 0 1 = cc in absurd (omega arith)
 
 pub belongs : (s : Section) (t : Content) (r : Record) → may s (kind r) ≡ true → Led s t → Belongs t r
@@ -69,6 +69,6 @@ belongs s t (R.Group q c n) e h = tt
 belongs s t (R.Seat d r) e h = tt
 belongs s t (R.Reserve d m) e h = tt
 belongs s t (R.Trainee l f n) e h = tt
-belongs s t (R.Wish g p m) e h = h (wish-part s e)
-belongs s t (R.Bar d) e h = h (bar-part s e)
+belongs s t (R.Wish g p m) e h = h (wish_part s e)
+belongs s t (R.Bar d) e h = h (bar_part s e)
 belongs s t (R.End n) e h = tt

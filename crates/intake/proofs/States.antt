@@ -3,14 +3,14 @@ use Rattle.std.proofs.Common.{◌≡◌, ℕ, ◌+◌, ◌<◌, ◌≤◌, List,
 use Rattle.format.specs.declared.record.Record.{Record}
 use Rattle.format.specs.declared.record.Record.TheVariants as R
 use Rattle.format.specs.Layout.{encode, kind, size, Took}
-use Rattle.format.proofs.Unique.{encode-size}
+use Rattle.format.proofs.Unique.{encode_size}
 use Rattle.rules.specs.declared.section.Section.{Section}
 use Rattle.rules.specs.declared.section.Section.TheVariants.{Closed}
 use Rattle.rules.specs.Contents.{Content}
 use Rattle.rules.specs.Order.{after}
 use Rattle.rules.specs.Rules.{Allowed}
 use Rattle.intake.specs.declared.counts.Counts.{Counts}
-use Rattle.intake.specs.Rows.{Row, ◌▸◌, encodes, sectionOf, listed, Passes}
+use Rattle.intake.specs.Rows.{Row, ◌▸◌, encodes, section_of, listed, Passes}
 use Rattle.intake.specs.Fillings.{Holds, Roomy}
 
 -- the records of a row were read off all, up to a place
@@ -22,15 +22,15 @@ pub record Read (all : List ℕ) (place : ℕ) (rs : Row) : Type 0 where
 pub record State (all rb : List ℕ) (place : ℕ) (section : Section) (had : Counts) (t : Content) (rs : Row) : Type 0 where
   pub same : rb ≡ all
   pub read : Read all place rs
-  pub section-is : section ≡ sectionOf rs
-  pub is_open : sectionOf rs ≡ Closed → ⊥
+  pub section_is : section ≡ section_of rs
+  pub is_open : section_of rs ≡ Closed → ⊥
   pub holds : Holds (listed rs) had t
   pub roomy : Roomy t
 
 -- one record more was read
-pub read_more : {all : List ℕ} {p q : ℕ} {rs : Row} (r : Record) → Read all p rs → Took all p q r → Allowed (sectionOf rs) (listed rs) r → Read all q (rs ▸ r)
+pub read_more : {all : List ℕ} {p q : ℕ} {rs : Row} (r : Record) → Read all p rs → Took all p q r → Allowed (section_of rs) (listed rs) r → Read all q (rs ▸ r)
 read_more {all} {p} {q} {rs} r h t a =
-    let z = encode-size r t.starts.formed in
+    let z = encode_size r t.starts.formed in
     let m = t.moved in
     let n = h.at in
     record {

@@ -10,11 +10,11 @@ use Rattle.intake.specs.declared.entry.Entry.{Entry}
 use Rattle.intake.specs.declared.entry.Entry.TheVariants as E
 use Rattle.intake.specs.Rows.{pushed}
 use Rattle.intake.specs.Firsts.{firsts}
-use Rattle.intake.specs.Fillings.{padded, blanks, Held, Holds, Place-for, counted, written}
+use Rattle.intake.specs.Fillings.{padded, blanks, Held, Holds, PlaceFor, counted, written}
 
 module _ {A : Type 0} (d : A) (xs : List A) (n : ℕ) (t : List A) (h : Held d xs n t) where
-  pub held-firsts : take n t ≡ xs
-  held-firsts = ap (λ (k : ℕ). take k t) h.count ∙ ap (λ (u : List A). take (length xs) u) h.filled ∙ take-append_seam xs (replicate (length t - length xs) d)
+  pub held_firsts : take n t ≡ xs
+  held_firsts = ap (λ (k : ℕ). take k t) h.count ∙ ap (λ (u : List A). take (length xs) u) h.filled ∙ take-append_seam xs (replicate (length t - length xs) d)
 
   pub held_more : (x : A) → n < length t → Held d (xs ++ (x ∷ [])) (n + 1) (set t n x)
   held_more x lt =
@@ -34,7 +34,7 @@ module _ {A : Type 0} (d : A) (xs : List A) (n : ℕ) (t : List A) (h : Held d x
       }
 
 -- one entry more
-pub holds_more : (x : Content) (c : Counts) (t : Content) (e : Entry) → Holds x c t → Place-for c t e → Holds (pushed x e) (counted c e) (written c t e)
+pub holds_more : (x : Content) (c : Counts) (t : Content) (e : Entry) → Holds x c t → PlaceFor c t e → Holds (pushed x e) (counted c e) (written c t e)
 holds_more x c t (E.Group y) h p = record { groups = held_more _ _ _ _ h.groups y p; seats = h.seats; reserves = h.reserves; trainees = h.trainees; contracts = h.contracts; bars = h.bars }
 holds_more x c t (E.Seat y) h p = record { groups = h.groups; seats = held_more _ _ _ _ h.seats y p; reserves = h.reserves; trainees = h.trainees; contracts = h.contracts; bars = h.bars }
 holds_more x c t (E.Reserve y) h p = record { groups = h.groups; seats = h.seats; reserves = held_more _ _ _ _ h.reserves y p; trainees = h.trainees; contracts = h.contracts; bars = h.bars }
@@ -46,12 +46,12 @@ holds_more x c t (E.End n) h p = h
 -- the first entries are those that are held
 pub holds-firsts : (x : Content) (c : Counts) (t : Content) → Holds x c t → firsts c t ≡ x
 holds-firsts x c t h =
-    let a = held-firsts _ _ _ _ h.groups in
-    let b = held-firsts _ _ _ _ h.seats in
-    let f = held-firsts _ _ _ _ h.reserves in
-    let g = held-firsts _ _ _ _ h.trainees in
-    let i = held-firsts _ _ _ _ h.contracts in
-    let j = held-firsts _ _ _ _ h.bars in
+    let a = held_firsts _ _ _ _ h.groups in
+    let b = held_firsts _ _ _ _ h.seats in
+    let f = held_firsts _ _ _ _ h.reserves in
+    let g = held_firsts _ _ _ _ h.trainees in
+    let i = held_firsts _ _ _ _ h.contracts in
+    let j = held_firsts _ _ _ _ h.bars in
     let z : firsts c t ≡ record { groups = x.groups; seats = x.seats; reserves = x.reserves; trainees = x.trainees; contracts = x.contracts; bars = x.bars } = cc in
     z
 
@@ -59,8 +59,8 @@ holds-firsts x c t h =
 held_none : {A : Type 0} (d : A) (t : List A) → t ≡ replicate (length t) d → Held d [] 0 t
 held_none d t e = record { count = refl; filled = simp unary_clauses e }
 
-pub holds-none : (t : Content) → t ≡ blanks t → Holds nothing (record { groups = 0; seats = 0; reserves = 0; trainees = 0; wishes = 0; bars = 0 }) t
-holds-none t e = record {
+pub holds_none : (t : Content) → t ≡ blanks t → Holds nothing (record { groups = 0; seats = 0; reserves = 0; trainees = 0; wishes = 0; bars = 0 }) t
+holds_none t e = record {
   groups = held_none _ _ (ap (λ (x : Content). x.groups) e);
   seats = held_none _ _ (ap (λ (x : Content). x.seats) e);
   reserves = held_none _ _ (ap (λ (x : Content). x.reserves) e);

@@ -8,7 +8,7 @@ use Rattle.rules.specs.declared.section.Section.{Section}
 use Rattle.rules.specs.declared.section.Section.TheVariants.{Trainees, Closed}
 use Rattle.rules.specs.Contents.{Content}
 use Rattle.rules.specs.Order.{after}
-use Rattle.rules.specs.Refusals.{recordRefusal}
+use Rattle.rules.specs.Refusals.{record_refusal}
 use Rattle.rules.specs.Rules.{Allowed, RecordNo, Room}
 use Rattle.intake.specs.declared.counts.Counts.{Counts}
 use Rattle.intake.specs.declared.entry.Entry.{Entry}
@@ -16,14 +16,14 @@ use Rattle.intake.specs.declared.entry.Entry.TheVariants as E
 use Rattle.intake.specs.declared.fault.DeckFault.{DeckFault}
 use Rattle.intake.specs.declared.fault.DeckFault.TheVariants.{Records, SmallTable, TooLong, WrongCount, Trailing, OtherTables}
 use Rattle.intake.specs.Refusals.{refusal}
-use Rattle.intake.specs.Rows.{Row, ◌▸◌, encodes, sectionOf, listed, entry_of, pushed, Passes, Spells, Led, Entered}
-use Rattle.intake.specs.Fillings.{Roomy, Holds, Place-for, counted, written}
+use Rattle.intake.specs.Rows.{Row, ◌▸◌, encodes, section_of, listed, entry_of, pushed, Passes, Spells, Led, Entered}
+use Rattle.intake.specs.Fillings.{Roomy, Holds, PlaceFor, counted, written}
 use Rattle.intake.specs.Firsts.{firsts}
-use Rattle.intake.specs.Book.{Reached, Due, wrong-count, trailing, EndNo, Fills}
+use Rattle.intake.specs.Book.{Reached, Due, wrong_count, trailing, EndNo, Fills}
 use Rattle.intake.proofs.Rows.{few, led}
 use Rattle.intake.proofs.Tables.{holds-firsts, holds_more}
 use Rattle.intake.proofs.States.{Read, State, read_more, read_all}
-use Rattle.intake.proofs.Dues.{due-record}
+use Rattle.intake.proofs.Dues.{due_record}
 
 -- only an E has an E's entry
 end_of : (t : Content) (p n : ℕ) (r : Record) → entry_of t p r ≡ E.End n → r ≡ R.End n
@@ -46,31 +46,31 @@ open_after t p (R.Bar d) h e = let z : ◌≡◌ {A = ℕ} 0 1 = cc in omega ari
 open_after t p (R.End n) h e = h n refl
 
 -- writing an entry keeps the tables' lengths
-roomy-written : (c : Counts) (t : Content) (e : Entry) → Roomy t → Roomy (written c t e)
-roomy-written c t (E.Group x) h = record { groups = simp length-set h.groups; seats = h.seats; reserves = h.reserves; trainees = h.trainees; contracts = h.contracts; bars = h.bars }
-roomy-written c t (E.Seat x) h = record { groups = h.groups; seats = simp length-set h.seats; reserves = h.reserves; trainees = h.trainees; contracts = h.contracts; bars = h.bars }
-roomy-written c t (E.Reserve x) h = record { groups = h.groups; seats = h.seats; reserves = simp length-set h.reserves; trainees = h.trainees; contracts = h.contracts; bars = h.bars }
-roomy-written c t (E.Trainee x) h = record { groups = h.groups; seats = h.seats; reserves = h.reserves; trainees = simp length-set h.trainees; contracts = h.contracts; bars = h.bars }
-roomy-written c t (E.Contract x) h = record { groups = h.groups; seats = h.seats; reserves = h.reserves; trainees = h.trainees; contracts = simp length-set h.contracts; bars = h.bars }
-roomy-written c t (E.Bar x) h = record { groups = h.groups; seats = h.seats; reserves = h.reserves; trainees = h.trainees; contracts = h.contracts; bars = simp length-set h.bars }
-roomy-written c t (E.End n) h = h
+roomy_written : (c : Counts) (t : Content) (e : Entry) → Roomy t → Roomy (written c t e)
+roomy_written c t (E.Group x) h = record { groups = simp length-set h.groups; seats = h.seats; reserves = h.reserves; trainees = h.trainees; contracts = h.contracts; bars = h.bars }
+roomy_written c t (E.Seat x) h = record { groups = h.groups; seats = simp length-set h.seats; reserves = h.reserves; trainees = h.trainees; contracts = h.contracts; bars = h.bars }
+roomy_written c t (E.Reserve x) h = record { groups = h.groups; seats = h.seats; reserves = simp length-set h.reserves; trainees = h.trainees; contracts = h.contracts; bars = h.bars }
+roomy_written c t (E.Trainee x) h = record { groups = h.groups; seats = h.seats; reserves = h.reserves; trainees = simp length-set h.trainees; contracts = h.contracts; bars = h.bars }
+roomy_written c t (E.Contract x) h = record { groups = h.groups; seats = h.seats; reserves = h.reserves; trainees = h.trainees; contracts = simp length-set h.contracts; bars = h.bars }
+roomy_written c t (E.Bar x) h = record { groups = h.groups; seats = h.seats; reserves = h.reserves; trainees = h.trainees; contracts = h.contracts; bars = simp length-set h.bars }
+roomy_written c t (E.End n) h = h
 
 -- a table that is large enough has a place for an entry under its most
-place-for : (x : Content) (c : Counts) (t : Content) (p : ℕ) (r : Record) → Room x (kind r) → Holds x c t → Roomy t → Place-for c t (entry_of x p r)
-place-for x c t p (R.Group q k m) a h b = let n = h.groups.count in let l = b.groups in omega arith
-place-for x c t p (R.Seat d q) a h b = let n = h.seats.count in let l = b.seats in omega arith
-place-for x c t p (R.Reserve d s) a h b = let n = h.reserves.count in let l = b.reserves in omega arith
-place-for x c t p (R.Trainee l f m) a h b = let n = h.trainees.count in let k = b.trainees in omega arith
-place-for x c t p (R.Wish g s m) a h b = let n = h.contracts.count in let k = b.contracts in omega arith
-place-for x c t p (R.Bar d) a h b = let n = h.bars.count in let k = b.bars in omega arith
-place-for x c t p (R.End n) a h b = tt
+place_for : (x : Content) (c : Counts) (t : Content) (p : ℕ) (r : Record) → Room x (kind r) → Holds x c t → Roomy t → PlaceFor c t (entry_of x p r)
+place_for x c t p (R.Group q k m) a h b = let n = h.groups.count in let l = b.groups in omega arith
+place_for x c t p (R.Seat d q) a h b = let n = h.seats.count in let l = b.seats in omega arith
+place_for x c t p (R.Reserve d s) a h b = let n = h.reserves.count in let l = b.reserves in omega arith
+place_for x c t p (R.Trainee l f m) a h b = let n = h.trainees.count in let k = b.trainees in omega arith
+place_for x c t p (R.Wish g s m) a h b = let n = h.contracts.count in let k = b.contracts in omega arith
+place_for x c t p (R.Bar d) a h b = let n = h.bars.count in let k = b.bars in omega arith
+place_for x c t p (R.End n) a h b = tt
 
 -- the record that an entry came from, read
 pub record Came (all : List ℕ) (q : ℕ) (rs : Row) (e : Entry) (s : Section) : Type 0 where
   pub came : Record
   pub read : Read all q (rs ▸ came)
-  pub entry-is : e ≡ entry_of (listed rs) (length (encodes rs)) came
-  pub section-is : s ≡ after (kind came)
+  pub entry_is : e ≡ entry_of (listed rs) (length (encodes rs)) came
+  pub section_is : s ≡ after (kind came)
 
 module _ {all rb : List ℕ} {place : ℕ} {section : Section} {had : Counts} {t : Content} {rs : Row} (st : State all rb place section had t rs)
     (x : Content) (past : x ≡ firsts had t) where
@@ -80,34 +80,34 @@ module _ {all rb : List ℕ} {place : ℕ} {section : Section} {had : Counts} {t
   pub few_past : length x.trainees ≤ 256
   few_past = subst (λ (y : Content). length y.trainees ≤ 256) (sym past_is) (few rs st.read.passes).trainees
 
-  pub led-past : Led section x
-  led-past = subst (λ (y : Content). Led section y) (sym past_is) (subst (λ (s : Section). Led s (listed rs)) (sym st.section-is) (led rs st.read.passes))
+  pub led_past : Led section x
+  led_past = subst (λ (y : Content). Led section y) (sym past_is) (subst (λ (s : Section). Led s (listed rs)) (sym st.section_is) (led rs st.read.passes))
 
-  pub refused : length all ≤ 15363 → (f : RecordFault) → RecordNo section x (drop place rb) place f → Due all (recordRefusal f)
+  pub refused : length all ≤ 15363 → (f : RecordFault) → RecordNo section x (drop place rb) place f → Due all (record_refusal f)
   refused short f h =
-      due-record all (drop place all) rs f (record { short = short; bytes-are = st.read.spelled; passed = st.read.passes }) st.is_open
-      (subst (λ (p : ℕ). RecordNo (sectionOf rs) (listed rs) (drop place all) p f) st.read.at
-      (subst (λ (b : List ℕ). RecordNo (sectionOf rs) (listed rs) (drop place b) place f) st.same
-      (subst (λ (y : Content). RecordNo (sectionOf rs) y (drop place rb) place f) past_is
-      (subst (λ (s : Section). RecordNo s x (drop place rb) place f) st.section-is h))))
+      due_record all (drop place all) rs f (record { short = short; bytes_are = st.read.spelled; passed = st.read.passes }) st.is_open
+      (subst (λ (p : ℕ). RecordNo (section_of rs) (listed rs) (drop place all) p f) st.read.at
+      (subst (λ (b : List ℕ). RecordNo (section_of rs) (listed rs) (drop place b) place f) st.same
+      (subst (λ (y : Content). RecordNo (section_of rs) y (drop place rb) place f) past_is
+      (subst (λ (s : Section). RecordNo s x (drop place rb) place f) st.section_is h))))
 
   pub came : (q : ℕ) (e : Entry) (s : Section) → Entered section x rb place q (e, s) → Came all q rs e s
   came q e s h =
       let a = h.1 in
       let took = subst (λ (b : List ℕ). Took b place q h.0) st.same a.took in
-      let allowed = subst (λ (y : Content). Allowed (sectionOf rs) y h.0) past_is (subst (λ (i : Section). Allowed i x h.0) st.section-is a.allowed) in
+      let allowed = subst (λ (y : Content). Allowed (section_of rs) y h.0) past_is (subst (λ (i : Section). Allowed i x h.0) st.section_is a.allowed) in
       record {
         came = h.0;
         read = read_more h.0 st.read took allowed;
-        entry-is = h.2 ∙ ap (λ (y : Content). entry_of y place h.0) past_is ∙ ap (λ (p : ℕ). entry_of (listed rs) p h.0) st.read.at;
-        section-is = a.next;
+        entry_is = h.2 ∙ ap (λ (y : Content). entry_of y place h.0) past_is ∙ ap (λ (p : ℕ). entry_of (listed rs) p h.0) st.read.at;
+        section_is = a.next;
       }
 
-  pub room_for : (q : ℕ) (e : Entry) (s : Section) → Entered section x rb place q (e, s) → Place-for had t e
+  pub room_for : (q : ℕ) (e : Entry) (s : Section) → Entered section x rb place q (e, s) → PlaceFor had t e
   room_for q e s h =
       let c = came q e s h in
-      subst (λ (y : Entry). Place-for had t y) (sym c.entry-is)
-      (place-for (listed rs) had t (length (encodes rs)) c.came c.read.passes.1.ruled.room st.holds st.roomy)
+      subst (λ (y : Entry). PlaceFor had t y) (sym c.entry-is)
+      (place_for (listed rs) had t (length (encodes rs)) c.came c.read.passes.1.ruled.room st.holds st.roomy)
 
   -- one record more, and its entry stored
   pub again : (rb' : List ℕ) (q : ℕ) (e : Entry) (s : Section) (had' : Counts) (t' : Content) → rb' ≡ rb → Entered section x rb place q (e, s) →
@@ -119,10 +119,10 @@ module _ {all rb : List ℕ} {place : ℕ} {section : Section} {had : Counts} {t
         record {
           same = same ∙ st.same;
           read = c.read;
-          section-is = c.section-is;
+          section_is = c.section-is;
           is_open = open_after (listed rs) (length (encodes rs)) c.came (λ n z. more n (c.entry-is ∙ z));
           holds = subst (λ (y : Content). Holds (listed (rs ▸ c.came)) had' y) (sym ht) (subst (λ (d : Counts). Holds (listed (rs ▸ c.came)) d (written had t e)) (sym hc) holds);
-          roomy = subst Roomy (sym ht) (roomy-written had t e st.roomy);
+          roomy = subst Roomy (sym ht) (roomy_written had t e st.roomy);
         },
       )
 
@@ -139,25 +139,25 @@ module _ {all rb : List ℕ} {place : ℕ} {section : Section} {had : Counts} {t
         let w = k.1 ∙ st.holds.contracts.count in (
           rs,
           record {
-            bytes-are = read_all r k.2 ∙ ap (λ (m : ℕ). encodes (rs ▸ R.End m)) w;
+            bytes_are = read_all r k.2 ∙ ap (λ (m : ℕ). encodes (rs ▸ R.End m)) w;
             passes = subst (λ (m : ℕ). Passes (rs ▸ R.End m)) w r.passes;
           },
           subst (λ (d : Counts). Holds (listed rs) d t) (sym k.0) st.holds,
         )
 
     -- E has a no
-    pub not-closed : q ≤ length all → (f : DeckFault) → EndNo n had.wishes place q (length all) f → Due all (refusal f)
-    not-closed le (WrongCount p) k =
+    pub not_closed : q ≤ length all → (f : DeckFault) → EndNo n had.wishes place q (length all) f → Due all (refusal f)
+    not_closed le (WrongCount p) k =
         let r = read-end in
         subst (λ (y : ℕ). Due all (refusal (WrongCount y))) (sym (k.1 ∙ st.read.at))
-        (wrong-count rs n (drop q all) (record { short = short; bytes-are = r.spelled; passed = r.passes }) (λ z. k.0 (z ∙ sym st.holds.contracts.count)))
-    not-closed le (Trailing p) k =
+        (wrong_count rs n (drop q all) (record { short = short; bytes_are = r.spelled; passed = r.passes }) (λ z. k.0 (z ∙ sym st.holds.contracts.count)))
+    not_closed le (Trailing p) k =
         let r = read-end in
         let ne = k.1 in
         let some : 0 < length (drop q all) = simp length-drop (omega arith) in
         subst (λ (y : ℕ). Due all (refusal (Trailing y))) (sym (k.2 ∙ r.at))
-        (trailing rs n (drop q all) (record { short = short; bytes-are = r.spelled; passed = r.passes }) (k.0 ∙ st.holds.contracts.count) some)
-    not-closed le (Records f) k = absurd k
-    not-closed le SmallTable k = absurd k
-    not-closed le TooLong k = absurd k
-    not-closed le OtherTables k = absurd k
+        (trailing rs n (drop q all) (record { short = short; bytes_are = r.spelled; passed = r.passes }) (k.0 ∙ st.holds.contracts.count) some)
+    not_closed le (Records f) k = absurd k
+    not_closed le SmallTable k = absurd k
+    not_closed le TooLong k = absurd k
+    not_closed le OtherTables k = absurd k

@@ -14,8 +14,8 @@ use Rattle.rules.specs.Rules.{Room, InRange, Fresh}
 use Rattle.intake.specs.declared.counts.Counts.{Counts}
 use Rattle.intake.specs.declared.fault.DeckFault.{DeckFault}
 use Rattle.intake.specs.declared.fault.DeckFault.TheVariants.{Records, SmallTable, TooLong, WrongCount, Trailing, OtherTables}
-use Rattle.intake.specs.Refusals.{byDeck, refusal}
-use Rattle.intake.specs.Rows.{Row, ◌▸◌, encodes, sectionOf, listed, Passes, Spells}
+use Rattle.intake.specs.Refusals.{by_deck, refusal}
+use Rattle.intake.specs.Rows.{Row, ◌▸◌, encodes, section_of, listed, Passes, Spells}
 use Rattle.intake.specs.Fillings.{Roomy, Holds, blanks}
 
 -- the questions that are put to each record in turn
@@ -50,7 +50,7 @@ layer fresh = L.Records
 abbrev pub Yes : Question → Row → List ℕ → Type 0
 Yes there rs rest = 0 < length rest
 Yes known rs rest = (k : Kind) × Begins rest k
-Yes stands rs rest = (k : Kind) → Begins rest k → may (sectionOf rs) k ≡ true
+Yes stands rs rest = (k : Kind) → Begins rest k → may (section_of rs) k ≡ true
 Yes whole rs rest = (k : Kind) → Begins rest k → size k ≤ length rest
 Yes room rs rest = (k : Kind) → Begins rest k → Room (listed rs) k
 Yes ranged rs rest = (r : Record) (more : List ℕ) → Starts rest r more → InRange (listed rs).groups r
@@ -64,18 +64,18 @@ pub record FirstNo (q : Question) (rs : Row) (rest : List ℕ) : Type 0 where
 -- a deck that is not too long begins with a row of records that pass, and these bytes are left
 pub record Reached (all : List ℕ) (rs : Row) (rest : List ℕ) : Type 0 where
   pub short : length all ≤ 15363
-  pub bytes-are : all ≡ encodes rs ++ rest
+  pub bytes_are : all ≡ encodes rs ++ rest
   pub passed : Passes rs
 
 -- the refusals that are due to a deck: it is too long; a record has a no; E gives a wrong number; bytes follow E
 pub data Due (all : List ℕ) : Refusal → Type 0 where
-  too_long : 15363 < length all → Due all (byDeck 2 0)
-  at-record : (rs : Row) (rest : List ℕ) (q : Question) → Reached all rs rest → (sectionOf rs ≢ Closed) → FirstNo q rs rest →
+  too_long : 15363 < length all → Due all (by_deck 2 0)
+  at_record : (rs : Row) (rest : List ℕ) (q : Question) → Reached all rs rest → (section_of rs ≢ Closed) → FirstNo q rs rest →
       Due all (record { number = number q; place = length (encodes rs); layer = layer q })
-  wrong-count : (rs : Row) (n : ℕ) (rest : List ℕ) → Reached all (rs ▸ R.End n) rest → (n ≢ length (listed rs).contracts) →
-      Due all (byDeck 10 (length (encodes rs)))
+  wrong_count : (rs : Row) (n : ℕ) (rest : List ℕ) → Reached all (rs ▸ R.End n) rest → (n ≢ length (listed rs).contracts) →
+      Due all (by_deck 10 (length (encodes rs)))
   trailing : (rs : Row) (n : ℕ) (rest : List ℕ) → Reached all (rs ▸ R.End n) rest → n ≡ length (listed rs).contracts → 0 < length rest →
-      Due all (byDeck 11 (length (encodes (rs ▸ R.End n))))
+      Due all (by_deck 11 (length (encodes (rs ▸ R.End n))))
 
 -- when a fault is due to an E at a place that gives the number n, where w W records stand before it
 abbrev pub EndNo : ℕ → ℕ → ℕ → ℕ → ℕ → DeckFault → Type 0
@@ -104,8 +104,8 @@ Refused (Err f) x = refusal f ≡ x
 pub record Verdict (all : List ℕ) (r : Result Counts DeckFault) : Type 0 where
   pub accepts : ((c : Counts) × (r ≡ Ok c)) ↔ ((rs : Row) × Spells all rs)
   pub refuses : (x : Refusal) → Refused r x ↔ Due all x
-  pub not-both : (rs : Row) (x : Refusal) → Spells all rs → Due all x → ⊥
-  pub one-refusal : (x y : Refusal) → Due all x → Due all y → x ≡ y
+  pub not_both : (rs : Row) (x : Refusal) → Spells all rs → Due all x → ⊥
+  pub one_refusal : (x y : Refusal) → Due all x → Due all y → x ≡ y
 
 -- the same as the code has it, by its fault
 pub record Taken (all : List ℕ) (t t' : Content) (r : Result Counts DeckFault) : Type 0 where
@@ -114,5 +114,5 @@ pub record Taken (all : List ℕ) (t t' : Content) (r : Result Counts DeckFault)
 
 -- what intake answers, and the tables t' that it leaves where they were t
 pub record Judged (all : List ℕ) (t t' : Content) (r : Result Counts DeckFault) : Type 0 where
-  pub small : (Roomy t → ⊥) → Refused r (byDeck 1 0) × (t' ≡ t)
+  pub small : (Roomy t → ⊥) → Refused r (by_deck 1 0) × (t' ≡ t)
   pub large : Roomy t → Answers all t t' r × Verdict all r

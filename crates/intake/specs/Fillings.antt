@@ -6,7 +6,7 @@ use Rattle.rules.specs.declared.table.Reservation.{Reservation}
 use Rattle.rules.specs.declared.table.Trainee.{Trainee}
 use Rattle.rules.specs.declared.table.Contract.{Contract}
 use Rattle.rules.specs.declared.table.Barring.{Barring}
-use Rattle.rules.specs.Contents.{Content, zeroSeat, zeroReservation, zeroTrainee, zeroContract, zeroBarring}
+use Rattle.rules.specs.Contents.{Content, zero_seat, zero_reservation, zero_trainee, zero_contract, zero_barring}
 use Rattle.intake.specs.declared.counts.Counts.{Counts}
 use Rattle.intake.specs.declared.entry.Entry.{Entry}
 use Rattle.intake.specs.declared.entry.Entry.TheVariants as E
@@ -16,18 +16,18 @@ abbrev pub tables : List Group → List Seat → List Reservation → List Train
 tables gs ss rs ts cs bs = record { groups = gs; seats = ss; reserves = rs; trainees = ts; contracts = cs; bars = bs }
 
 -- a blank entry is all zero, a blank group without parent
-abbrev pub noGroup : Group
-noGroup = record { parent = 255; capacity = 0; name = 0; dredger = 0 }
+abbrev pub no_group : Group
+no_group = record { parent = 255; capacity = 0; name = 0; dredger = 0 }
 
 -- tables of these lengths, all blank
 abbrev pub blanks : Content → Content
 blanks t = record {
-  groups = replicate (length t.groups) noGroup;
-  seats = replicate (length t.seats) zeroSeat;
-  reserves = replicate (length t.reserves) zeroReservation;
-  trainees = replicate (length t.trainees) zeroTrainee;
-  contracts = replicate (length t.contracts) zeroContract;
-  bars = replicate (length t.bars) zeroBarring;
+  groups = replicate (length t.groups) no_group;
+  seats = replicate (length t.seats) zero_seat;
+  reserves = replicate (length t.reserves) zero_reservation;
+  trainees = replicate (length t.trainees) zero_trainee;
+  contracts = replicate (length t.contracts) zero_contract;
+  bars = replicate (length t.bars) zero_barring;
 }
 
 -- each table has at least its most entries
@@ -50,22 +50,22 @@ pub record Held {A : Type 0} (blank : A) (xs : List A) (n : ℕ) (table : List A
 
 -- the six tables t hold the entries x, and c counts them
 pub record Holds (x : Content) (c : Counts) (t : Content) : Type 0 where
-  pub groups : Held noGroup x.groups c.groups t.groups
-  pub seats : Held zeroSeat x.seats c.seats t.seats
-  pub reserves : Held zeroReservation x.reserves c.reserves t.reserves
-  pub trainees : Held zeroTrainee x.trainees c.trainees t.trainees
-  pub contracts : Held zeroContract x.contracts c.wishes t.contracts
-  pub bars : Held zeroBarring x.bars c.bars t.bars
+  pub groups : Held no_group x.groups c.groups t.groups
+  pub seats : Held zero_seat x.seats c.seats t.seats
+  pub reserves : Held zero_reservation x.reserves c.reserves t.reserves
+  pub trainees : Held zero_trainee x.trainees c.trainees t.trainees
+  pub contracts : Held zero_contract x.contracts c.wishes t.contracts
+  pub bars : Held zero_barring x.bars c.bars t.bars
 
 -- the table that an entry goes to has a place for it
-abbrev pub Place-for : Counts → Content → Entry → Type 0
-Place-for c t (E.Group x) = c.groups < length t.groups
-Place-for c t (E.Seat x) = c.seats < length t.seats
-Place-for c t (E.Reserve x) = c.reserves < length t.reserves
-Place-for c t (E.Trainee x) = c.trainees < length t.trainees
-Place-for c t (E.Contract x) = c.wishes < length t.contracts
-Place-for c t (E.Bar x) = c.bars < length t.bars
-Place-for c t (E.End n) = Unit {0}
+abbrev pub PlaceFor : Counts → Content → Entry → Type 0
+PlaceFor c t (E.Group x) = c.groups < length t.groups
+PlaceFor c t (E.Seat x) = c.seats < length t.seats
+PlaceFor c t (E.Reserve x) = c.reserves < length t.reserves
+PlaceFor c t (E.Trainee x) = c.trainees < length t.trainees
+PlaceFor c t (E.Contract x) = c.wishes < length t.contracts
+PlaceFor c t (E.Bar x) = c.bars < length t.bars
+PlaceFor c t (E.End n) = Unit {0}
 
 -- one entry more in the counts
 abbrev pub counted : Counts → Entry → Counts

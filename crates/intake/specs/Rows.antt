@@ -7,40 +7,40 @@ use Rattle.rules.specs.declared.section.Section.{Section}
 use Rattle.rules.specs.declared.section.Section.TheVariants.{Groups, Trainees}
 use Rattle.rules.specs.declared.table.Group.{Group}
 use Rattle.rules.specs.declared.table.Contract.{Contract}
-use Rattle.rules.specs.Contents.{Content, nothing, groupAt, traineeAt}
+use Rattle.rules.specs.Contents.{Content, nothing, group_at, trainee_at}
 use Rattle.rules.specs.Order.{after}
 use Rattle.rules.specs.Rules.{Admitted, Allowed, current}
 use Rattle.intake.specs.declared.entry.Entry.{Entry}
 use Rattle.intake.specs.declared.entry.Entry.TheVariants as E
 
 -- a group without parent is its own dredger, any other has its parent's; its name begins four bytes after its kind byte
-abbrev pub groupEntry : Content → ℕ → ℕ → ℕ → Group
-groupEntry t place p c = record {
+abbrev pub entry_of_group : Content → ℕ → ℕ → ℕ → Group
+entry_of_group t place p c = record {
   parent = p;
   capacity = c;
   name = place + 4;
-  dredger = cond (p == 255) (length t.groups) (groupAt t.groups p).dredger;
+  dredger = cond (p == 255) (length t.groups) (group_at t.groups p).dredger;
 }
 
 -- a wish belongs to the trainee before it, whose lot and flag it carries
-abbrev pub wishEntry : Content → ℕ → ℕ → ℕ → Contract
-wishEntry t g p m = record {
+abbrev pub entry_of_wish : Content → ℕ → ℕ → ℕ → Contract
+entry_of_wish t g p m = record {
   trainee = current t;
   group = g;
-  dredger = (groupAt t.groups g).dredger;
+  dredger = (group_at t.groups g).dredger;
   points = p;
   term = m;
-  lot = (traineeAt t.trainees (current t)).lot;
-  flag = (traineeAt t.trainees (current t)).flag;
+  lot = (trainee_at t.trainees (current t)).lot;
+  flag = (trainee_at t.trainees (current t)).flag;
 }
 
 -- the entry of a record at a place, after those with these entries
 abbrev pub entry_of : Content → ℕ → Record → Entry
-entry_of t place (R.Group p c n) = E.Group (groupEntry t place p c)
+entry_of t place (R.Group p c n) = E.Group (entry_of_group t place p c)
 entry_of t place (R.Seat d r) = E.Seat (record { dredger = d; rule = r })
 entry_of t place (R.Reserve d s) = E.Reserve (record { dredger = d; seats = s })
 entry_of t place (R.Trainee l f n) = E.Trainee (record { lot = l; flag = (f == 1); name = place + 4 })
-entry_of t place (R.Wish g p m) = E.Contract (wishEntry t g p m)
+entry_of t place (R.Wish g p m) = E.Contract (entry_of_wish t g p m)
 entry_of t place (R.Bar d) = E.Bar (record { trainee = current t; dredger = d })
 entry_of t place (R.End n) = E.End n
 
@@ -66,9 +66,9 @@ encodes none = []
 encodes (rs ▸ r) = encodes rs ++ encode r
 
 -- the part that a row has come to
-abbrev pub sectionOf : Row → Section
-sectionOf none = Groups
-sectionOf (rs ▸ r) = after (kind r)
+abbrev pub section_of : Row → Section
+section_of none = Groups
+section_of (rs ▸ r) = after (kind r)
 
 -- the entries of a row
 abbrev pub listed : Row → Content
@@ -78,7 +78,7 @@ listed (rs ▸ r) = pushed (listed rs) (entry_of (listed rs) (length (encodes rs
 -- every record may stand where it does and keeps the rules, given those before it
 abbrev pub Passes : Row → Type 0
 Passes none = Unit {0}
-Passes (rs ▸ r) = Passes rs × Allowed (sectionOf rs) (listed rs) r
+Passes (rs ▸ r) = Passes rs × Allowed (section_of rs) (listed rs) r
 
 -- a row and the E that ends it, which gives the number of W records
 abbrev pub ended : Row → Row
@@ -86,7 +86,7 @@ ended rs = rs ▸ R.End (length (listed rs).contracts)
 
 -- these bytes, and no others, are the deck of this lawful row
 pub record Spells (all : List ℕ) (rs : Row) : Type 0 where
-  pub bytes-are : all ≡ encodes (ended rs)
+  pub bytes_are : all ≡ encodes (ended rs)
   pub passes : Passes (ended rs)
 
 -- a wish or a bar has a trainee before it

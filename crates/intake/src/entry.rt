@@ -1,8 +1,8 @@
 // The entry that a record fills.
 ghost use Rattle.std.specs.Prelude.{◌≡◌, ℕ, ◌+◌, ◌<◌, ◌≤◌, length, ◌≢◌};
 ghost use Rattle.format.specs.Layout.{kind};
-ghost use Rattle.intake.specs.Rows.{Belongs, entry_of, groupEntry, wishEntry};
-ghost use Rattle.rules.specs.Contents.{contentOf};
+ghost use Rattle.intake.specs.Rows.{Belongs, entry_of, entry_of_group, entry_of_wish};
+ghost use Rattle.rules.specs.Contents.{content_of};
 ghost use Rattle.rules.specs.Rules.{InRange, Room};
 
 use format::record::Record;
@@ -24,7 +24,7 @@ fn group_entry(past: Tables, place: usize, parent: u8, capacity: u16) -> Group
     requires place { place ≤ 15363 }
     requires few { length past.groups.now < 64 }
     requires parent { (parent ≢ 255) → parent < length past.groups.now }
-    ensures { result ≡ groupEntry (contentOf past.entry) place parent capacity }
+    ensures { result ≡ entry_of_group (content_of past.entry) place parent capacity }
 {
     let name = place + 4;
     if parent == NO_PARENT {
@@ -48,7 +48,7 @@ fn wish_entry(past: Tables, group: u8, points: u16, term: u8) -> Contract
     requires some { 0 < length past.trainees.now }
     requires few { length past.trainees.now ≤ 256 }
     requires group { group < length past.groups.now }
-    ensures { result ≡ wishEntry (contentOf past.entry) group points term }
+    ensures { result ≡ entry_of_wish (content_of past.entry) group points term }
 {
     let last = past.trainees.len() - 1;
     let owner = past.trainees[last];
@@ -68,10 +68,10 @@ fn wish_entry(past: Tables, group: u8, points: u16, term: u8) -> Contract
 pub(crate) fn entry_of(rec: Record, place: usize, past: Tables) -> Entry
     requires place { place ≤ 15363 }
     requires few { length past.trainees.now ≤ 256 }
-    requires room { Room (contentOf past) (kind rec) }
-    requires range { InRange (contentOf past).groups rec }
-    requires belongs { Belongs (contentOf past) rec }
-    ensures { result ≡ entry_of (contentOf past.entry) place rec }
+    requires room { Room (content_of past) (kind rec) }
+    requires range { InRange (content_of past).groups rec }
+    requires belongs { Belongs (content_of past) rec }
+    ensures { result ≡ entry_of (content_of past.entry) place rec }
 {
     match rec {
         Record::Group {

@@ -1,5 +1,5 @@
 // A fault of the deck layer, with one of the record layer whole.
-ghost use Rattle.intake.specs.Refusals.{byDeck, deckOf, refusal as refusalOf};
+ghost use Rattle.intake.specs.Refusals.{by_deck, deck_of, refusal as refusalOf};
 ghost use Rattle.std.specs.Prelude.{◌≡◌};
 
 use format::fault::{Layer, Refusal};
@@ -16,7 +16,7 @@ pub enum DeckFault {
 }
 
 impl From<RecordFault> for DeckFault {
-    ghost from_gives = { λ x y. y ≡ deckOf x };
+    ghost from_gives = { λ x y. y ≡ deck_of x };
 
     fn from(f: RecordFault) -> DeckFault {
         DeckFault::Records(f)
@@ -25,7 +25,7 @@ impl From<RecordFault> for DeckFault {
 
 // A refusal by this layer.
 fn at(number: u8, place: usize) -> Refusal
-    ensures { result ≡ byDeck number place }
+    ensures { result ≡ by_deck number place }
 {
     Refusal {
         number,

@@ -4,7 +4,7 @@ ghost use Rattle.intake.specs.Book.{Due, EndNo, Fills};
 ghost use Rattle.intake.specs.Fillings.{Roomy, blanks, tables};
 ghost use Rattle.intake.specs.Refusals.{refusal};
 ghost use Rattle.intake.specs.Rows.{Entered, Led};
-ghost use Rattle.rules.specs.Contents.{contentOf};
+ghost use Rattle.rules.specs.Contents.{content_of};
 ghost use Rattle.rules.specs.Rules.{RecordNo};
 
 use crate::counts::{Counts, NO_COUNTS};
@@ -28,10 +28,10 @@ fn next_entry(
 ) -> Result<(Entry, Section), RecordFault>
     requires place { reader.old.place ≤ 15363 }
     requires few { length past.trainees.now ≤ 256 }
-    requires led { Led section (contentOf past) }
+    requires led { Led section (content_of past) }
     ensures same { reader.new.bytes.now ≡ reader.old.bytes.now }
-    ensures cases { MatchResult result (λ x. Entered section (contentOf past.entry) reader.old.bytes.now reader.old.place reader.new.place x)
-        (λ f. RecordNo section (contentOf past.entry) (drop reader.old.place reader.old.bytes.now) reader.old.place f) }
+    ensures cases { MatchResult result (λ x. Entered section (content_of past.entry) reader.old.bytes.now reader.old.place reader.new.place x)
+        (λ f. RecordNo section (content_of past.entry) (drop reader.old.place reader.old.bytes.now) reader.old.place f) }
 {
     let place = reader.place();
     let (rec, next) = admit(reader, section, past)?;

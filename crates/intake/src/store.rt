@@ -1,6 +1,6 @@
 // Writing entries into tables, and blanking tables.
 ghost use Rattle.std.specs.Prelude.{◌≡◌, ℕ, ◌+◌, ◌<◌, ◌≤◌, length};
-ghost use Rattle.intake.specs.Fillings.{Place-for, blanks, counted, tables, written};
+ghost use Rattle.intake.specs.Fillings.{PlaceFor, blanks, counted, tables, written};
 
 use crate::counts::Counts;
 use crate::entry::Entry;
@@ -40,7 +40,7 @@ pub fn store(
     contracts: &mut [Contract],
     bars: &mut [Barring],
 ) -> Counts
-    requires { Place-for had (tables groups.old seats.old reserves.old trainees.old contracts.old bars.old) entry }
+    requires { PlaceFor had (tables groups.old seats.old reserves.old trainees.old contracts.old bars.old) entry }
     ensures counts { result ≡ counted had entry }
     ensures entries { tables groups.new seats.new reserves.new trainees.new contracts.new bars.new
         ≡ written had (tables groups.old seats.old reserves.old trainees.old contracts.old bars.old) entry }

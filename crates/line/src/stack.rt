@@ -1,5 +1,5 @@
 // A line that takes the newest, on a strip of trainee numbers.
-ghost use Rattle.line.specs.Calls.{at-end, the-newest};
+ghost use Rattle.line.specs.Calls.{at_end, the_newest};
 ghost use Rattle.strip.specs.Rows.{items, places as places_of};
 ghost use Rattle.std.specs.Prelude.{◌≡◌};
 
@@ -26,9 +26,9 @@ impl<'a, 'b> Line for Stack<'a, 'b> {
 
     ghost waiting = { λ s. items s.row.now };
 
-    ghost joins = { at-end };
+    ghost joins = { at_end };
 
-    ghost takes = { the-newest };
+    ghost takes = { the_newest };
 
     fn join(&mut self, trainee: u16) -> Result<(), Full> {
         put(self.row, trainee)

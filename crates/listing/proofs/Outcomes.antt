@@ -6,14 +6,14 @@ use Rattle.intake.specs.Firsts.{firsts}
 use Rattle.intake.specs.Rows.{listed}
 use Rattle.intake.proofs.Tables.{holds-firsts}
 use Rattle.deck.specs.Alike.{Fits}
-use Rattle.listing.specs.Lines.{deckText}
+use Rattle.listing.specs.Lines.{text_of_deck}
 use Rattle.listing.specs.Outcomes.{Outcome}
-use Rattle.listing.specs.Outcomes.Outcome.{is-dealt}
+use Rattle.listing.specs.Outcomes.Outcome.{is_dealt}
 use Rattle.listing.specs.Print.{Grew}
 
-pub dealt-text : (all bytes out blank done : List ℕ) (c : Counts) (t x : Content) → Fits all c t → bytes ≡ all → x ≡ firsts c t →
-    blank ≡ [] → Grew blank done (deckText bytes x) → out ≡ done → Outcome all out
-dealt-text all bytes out blank done c t x f e g b w o =
+pub dealt_text : (all bytes out blank done : List ℕ) (c : Counts) (t x : Content) → Fits all c t → bytes ≡ all → x ≡ firsts c t →
+    blank ≡ [] → Grew blank done (text_of_deck bytes x) → out ≡ done → Outcome all out
+dealt_text all bytes out blank done c t x f e g b w o =
     let h = f.1 in
-    is-dealt h.0 h.1
-    (o ∙ w.is ∙ ap (λ (l : List ℕ). l ++ deckText bytes x) b ∙ ap (λ (l : List ℕ). deckText l x) e ∙ ap (λ (y : Content). deckText all y) (g ∙ holds-firsts _ _ _ h.2))
+    is_dealt h.0 h.1
+    (o ∙ w.is ∙ ap (λ (l : List ℕ). l ++ text_of_deck bytes x) b ∙ ap (λ (l : List ℕ). text_of_deck l x) e ∙ ap (λ (y : Content). text_of_deck all y) (g ∙ holds-firsts _ _ _ h.2))

@@ -5,30 +5,30 @@ use Rattle.format.specs.declared.fault.Layer.{Layer}
 use Rattle.format.specs.declared.fault.Layer.TheVariants.{Bytes, Records, Deck}
 use Rattle.format.specs.declared.fault.Refusal.{Refusal}
 use Rattle.rules.specs.declared.table.Contract.{Contract}
-use Rattle.rules.specs.Contents.{Content, traineeAt}
+use Rattle.rules.specs.Contents.{Content, trainee_at}
 
-abbrev pub layerName : Layer → List ℕ
-layerName Bytes = codes "bytes"
-layerName Records = codes "records"
-layerName Deck = codes "deck"
+abbrev pub layer_name : Layer → List ℕ
+layer_name Bytes = codes "bytes"
+layer_name Records = codes "records"
+layer_name Deck = codes "deck"
 
 -- a number in decimal, a blank before it
-abbrev pub numberField : ℕ → List ℕ
-numberField n = codes " " ++ decimal n
+abbrev pub number_field : ℕ → List ℕ
+number_field n = codes " " ++ decimal n
 
 -- a refusal prints only this line
-abbrev pub refusalLine : Refusal → List ℕ
-refusalLine x = codes "REFUSED" ++ (numberField x.number ++ (codes " PLACE" ++ (numberField x.place ++ (codes " LAYER " ++ (layerName x.layer ++ codes "\n")))))
+abbrev pub line_of_refusal : Refusal → List ℕ
+line_of_refusal x = codes "REFUSED" ++ (number_field x.number ++ (codes " PLACE" ++ (number_field x.place ++ (codes " LAYER " ++ (layer_name x.layer ++ codes "\n")))))
 
 -- the eight bytes of the name at a place of the deck
 abbrev pub name_at : List ℕ → ℕ → List ℕ
 name_at deck place = take 8 (drop place deck)
 
 -- the six counts of a deck
-abbrev pub deckLine : Content → List ℕ
-deckLine t =
-    codes "DECK" ++ (numberField (length t.groups) ++ (numberField (length t.seats) ++ (numberField (length t.reserves)
-    ++ (numberField (length t.trainees) ++ (numberField (length t.contracts) ++ (numberField (length t.bars) ++ codes "\n"))))))
+abbrev pub line_of_deck : Content → List ℕ
+line_of_deck t =
+    codes "DECK" ++ (number_field (length t.groups) ++ (number_field (length t.seats) ++ (number_field (length t.reserves)
+    ++ (number_field (length t.trainees) ++ (number_field (length t.contracts) ++ (number_field (length t.bars) ++ codes "\n"))))))
 
 -- how many of these contracts are of trainee k
 abbrev pub wishes : ℕ → List Contract → ℕ
@@ -36,16 +36,16 @@ wishes k [] = 0
 wishes k (c ∷ cs) = cond (c.trainee == k) 1 0 + wishes k cs
 
 -- the name at a place of the deck, and a number
-abbrev pub nameLine : List ℕ → ℕ → ℕ → List ℕ
-nameLine deck place n = codes "T " ++ (name_at deck place ++ (numberField n ++ codes "\n"))
+abbrev pub line_of_name : List ℕ → ℕ → ℕ → List ℕ
+line_of_name deck place n = codes "T " ++ (name_at deck place ++ (number_field n ++ codes "\n"))
 
 -- a trainee's name and number of wishes
-abbrev pub traineeLine : List ℕ → Content → ℕ → List ℕ
-traineeLine deck t k = nameLine deck (traineeAt t.trainees k).name (wishes k t.contracts)
+abbrev pub line_of_trainee : List ℕ → Content → ℕ → List ℕ
+line_of_trainee deck t k = line_of_name deck (trainee_at t.trainees k).name (wishes k t.contracts)
 
-abbrev pub traineeLines : List ℕ → Content → ℕ → List ℕ
-traineeLines deck t n = flat_map (traineeLine deck t) (range_with_len 0 n)
+abbrev pub lines_of_trainees : List ℕ → Content → ℕ → List ℕ
+lines_of_trainees deck t n = flat_map (line_of_trainee deck t) (range_with_len 0 n)
 
 -- what is printed of a deck that was accepted
-abbrev pub deckText : List ℕ → Content → List ℕ
-deckText deck t = deckLine t ++ (traineeLines deck t (length t.trainees) ++ codes "END\n")
+abbrev pub text_of_deck : List ℕ → Content → List ℕ
+text_of_deck deck t = line_of_deck t ++ (lines_of_trainees deck t (length t.trainees) ++ codes "END\n")

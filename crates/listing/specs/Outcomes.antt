@@ -3,8 +3,8 @@ use Rattle.std.specs.Prelude.{◌≡◌, ℕ, List}
 use Rattle.format.specs.declared.fault.Refusal.{Refusal}
 use Rattle.intake.specs.Rows.{Row, Spells, listed}
 use Rattle.intake.specs.Book.{Due}
-use Rattle.listing.specs.Lines.{refusalLine, deckText}
+use Rattle.listing.specs.Lines.{line_of_refusal, text_of_deck}
 
 pub data Outcome (all out : List ℕ) : Type 0 where
-  is-refused : (x : Refusal) → Due all x → out ≡ refusalLine x → Outcome all out
-  is-dealt : (rs : Row) → Spells all rs → out ≡ deckText all (listed rs) → Outcome all out
+  is-refused : (x : Refusal) → Due all x → out ≡ line_of_refusal x → Outcome all out
+  is_dealt : (rs : Row) → Spells all rs → out ≡ text_of_deck all (listed rs) → Outcome all out

@@ -2,10 +2,10 @@
 ghost use Rattle.deck.specs.Alike.{Fits};
 ghost use Rattle.deck.specs.Contents.{bytes_of, data_of};
 ghost use Rattle.intake.specs.Refusals.{refusal};
-ghost use Rattle.listing.specs.Lines.{deckLine, deckText, refusalLine, traineeLine, traineeLines, wishes};
+ghost use Rattle.listing.specs.Lines.{line_of_deck, text_of_deck, line_of_refusal, line_of_trainee, lines_of_trainees, wishes};
 ghost use Rattle.listing.specs.Outcomes.{Outcome};
 ghost use Rattle.listing.specs.Print.{Writes};
-ghost use Rattle.rules.specs.Contents.{contentOf};
+ghost use Rattle.rules.specs.Contents.{content_of};
 ghost use Rattle.std.specs.Prelude.{◌≡◌, ◌<◌, ◌≤◌, length, IfOk};
 
 use crate::printer::Printer;
@@ -32,7 +32,7 @@ fn wish_count(contracts: &[Contract], trainee: usize) -> usize
 }
 
 fn deck_line(p: &mut Printer, deck: &Deck) -> Result<(), AllocError>
-    ensures { Writes result p.old p.new (deckLine (data_of deck.now)) }
+    ensures { Writes result p.old p.new (line_of_deck (data_of deck.now)) }
 {
     p.put(b"DECK")?;
     p.field(deck.groups().len())?;
@@ -47,7 +47,7 @@ fn deck_line(p: &mut Printer, deck: &Deck) -> Result<(), AllocError>
 
 fn trainee_line(p: &mut Printer, deck: &Deck, k: usize) -> Result<(), AllocError>
     requires { k < length (data_of deck.now).trainees }
-    ensures { Writes result p.old p.new (traineeLine (bytes_of deck.now) (data_of deck.now) k) }
+    ensures { Writes result p.old p.new (line_of_trainee (bytes_of deck.now) (data_of deck.now) k) }
 {
     let name = deck.trainees()[k].name;
     let n = wish_count(deck.contracts(), k);
@@ -57,7 +57,7 @@ fn trainee_line(p: &mut Printer, deck: &Deck, k: usize) -> Result<(), AllocError
 
 fn trainee_lines(p: &mut Printer, deck: &Deck) -> Result<(), AllocError>
     ensures { Writes result p.old p.new
-        (traineeLines (bytes_of deck.now) (data_of deck.now) (length (data_of deck.now).trainees)) }
+        (lines_of_trainees (bytes_of deck.now) (data_of deck.now) (length (data_of deck.now).trainees)) }
 {
     for k in 0..deck.trainees().len() {
         trainee_line(p, deck, k)?;
@@ -66,7 +66,7 @@ fn trainee_lines(p: &mut Printer, deck: &Deck) -> Result<(), AllocError>
 }
 
 fn deck_text(p: &mut Printer, deck: &Deck) -> Result<(), AllocError>
-    ensures { Writes result p.old p.new (deckText (bytes_of deck.now) (data_of deck.now)) }
+    ensures { Writes result p.old p.new (text_of_deck (bytes_of deck.now) (data_of deck.now)) }
 {
     deck_line(p, deck)?;
     trainee_lines(p, deck)?;
@@ -75,7 +75,7 @@ fn deck_text(p: &mut Printer, deck: &Deck) -> Result<(), AllocError>
 }
 
 fn refused(heap: Global, f: DeckFault) -> Result<Vec<u8>, AllocError>
-    ensures { IfOk result (λ v. v.items ≡ refusalLine (refusal f)) }
+    ensures { IfOk result (λ v. v.items ≡ line_of_refusal (refusal f)) }
 {
     let mut p = Printer::new(heap);
     p.refusal_line(f.refusal())?;
@@ -88,7 +88,7 @@ fn dealt<'a>(
     tables: Tables<'a>,
     counts: Counts,
 ) -> Result<Vec<u8>, AllocError>
-    requires { Fits bytes.now counts (contentOf tables) }
+    requires { Fits bytes.now counts (content_of tables) }
     ensures { IfOk result (λ v. Outcome bytes.now v.items) }
 {
     let mut deck: Deck<'a> = Deck::empty();

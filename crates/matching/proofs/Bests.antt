@@ -5,13 +5,13 @@ use Rattle.std.proofs.lemmas.Bool.{cases_Bool, cases_lt, both_ways}
 use Rattle.matching.specs.Sets.{Set}
 use Rattle.matching.specs.Choices.{Choice}
 use Rattle.matching.specs.Market.{Market, Known, Better, Likes, Stable, Best}
-use Rattle.matching.specs.Facts.{One-best}
+use Rattle.matching.specs.Facts.{OneBest}
 use Rattle.matching.proofs.Sets.{same_bool, inside}
 
 -- what a best list gives is in any other: else its trainee would like one of the two better
 module _ (M : Market) (known : Known M) (kept : Choice) (A B : Set) (a : Best M kept A) (b : Best M kept B) where
-  better-or : (k : ℕ) → A k ≡ true → B k ≡ false → (j : ℕ) → B j ≡ true → M.trainee j ≡ M.trainee k → M.order k < M.order j
-  better-or k x y j z t = ⊎_elim (λ l. l) (λ l. absurd (a.liked B b.stable (M.trainee k) (j, z, t, worse l))) (cases_lt (M.order k) (M.order j))
+  better_or : (k : ℕ) → A k ≡ true → B k ≡ false → (j : ℕ) → B j ≡ true → M.trainee j ≡ M.trainee k → M.order k < M.order j
+  better_or k x y j z t = ⊎_elim (λ l. l) (λ l. absurd (a.liked B b.stable (M.trainee k) (j, z, t, worse l))) (cases_lt (M.order k) (M.order j))
     where
       worse : M.order j ≤ M.order k → Better M j A
       worse l i p q =
@@ -23,7 +23,7 @@ module _ (M : Market) (known : Known M) (kept : Choice) (A B : Set) (a : Best M 
           strict ne = ⊎_elim (λ m. m) (λ m. absurd (ne (omega arith))) (cases_lt (M.order j) (M.order k))
 
   pub in_both : (k : ℕ) → A k ≡ true → B k ≡ true
-  in_both k x = inside B k (λ y. b.liked A a.stable (M.trainee k) (k, x, refl, better-or k x y))
+  in_both k x = inside B k (λ y. b.liked A a.stable (M.trainee k) (k, x, refl, better_or k x y))
 
-pub one-best : One-best
-one-best M known kept A B a b = fun_ext (λ k. same_bool _ _ (in_both M known kept A B a b k) (in_both M known kept B A b a k))
+pub one_best : OneBest
+one_best M known kept A B a b = fun_ext (λ k. same_bool _ _ (in_both M known kept A B a b k) (in_both M known kept B A b a k))

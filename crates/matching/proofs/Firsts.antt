@@ -3,15 +3,15 @@ use Rattle.std.proofs.Common.{◌≡◌, ℕ, ◌<◌, ◌≤◌, Bool, true, fa
 use mathlib.Core.Path.{fun_ext}
 use Rattle.std.proofs.lemmas.Bool.{and_parts, and_from, and_left, and_right, and_cases, not_from_true, cases_Bool, cases_eq, both_ways, eq-eqb, ltb-true, ltb-false, lt-ltb}
 use Rattle.matching.specs.Sets.{Set, less, Part, Within}
-use Rattle.matching.specs.Choices.{Choice, Keeps-part, Substitutable, Lawful, Strict, ahead, first}
-use Rattle.matching.specs.Facts.{First-lawful}
-use Rattle.matching.proofs.Sets.{same_bool, less_other, less-of}
-use Rattle.matching.proofs.Sums.{passing-le}
-use Rattle.matching.proofs.Thinning.{one-removed}
+use Rattle.matching.specs.Choices.{Choice, KeepsPart, Substitutable, Lawful, Strict, ahead, first}
+use Rattle.matching.specs.Facts.{FirstLawful}
+use Rattle.matching.proofs.Sets.{same_bool, less_other, less_of}
+use Rattle.matching.proofs.Sums.{passing_le}
+use Rattle.matching.proofs.Thinning.{one_removed}
 
 module _ (n : ℕ) (A : Set) (before : ℕ → ℕ → Bool) (r : ℕ → ℕ) (strict : Strict before r) where
-  ahead-le : (X Y : Set) (k l : ℕ) → ((j : ℕ) → X j ≡ true → before j k ≡ true → (Y j ≡ true) × (before j l ≡ true)) → ahead n A before X k ≤ ahead n A before Y l
-  ahead-le X Y k l h = passing-le n (λ j. X j && (A j && before j k)) (λ j. Y j && (A j && before j l)) at
+  ahead_le : (X Y : Set) (k l : ℕ) → ((j : ℕ) → X j ≡ true → before j k ≡ true → (Y j ≡ true) × (before j l ≡ true)) → ahead n A before X k ≤ ahead n A before Y l
+  ahead_le X Y k l h = passing_le n (λ j. X j && (A j && before j k)) (λ j. Y j && (A j && before j l)) at
     where
       at : (j : ℕ) → j < n → (X j && (A j && before j k)) ≡ true → (Y j && (A j && before j l)) ≡ true
       at j i e =
@@ -23,19 +23,19 @@ module _ (n : ℕ) (A : Set) (before : ℕ → ℕ → Bool) (r : ℕ → ℕ) (
   abbrev room : Set → ℕ → Bool
   room X k = A k && ltb (ahead n A before X k) (r k)
 
-  room-le : (X Y : Set) (k : ℕ) → ((j : ℕ) → X j ≡ true → before j k ≡ true → Y j ≡ true) → room Y k ≡ true → room X k ≡ true
-  room-le X Y k h e =
+  room_le : (X Y : Set) (k : ℕ) → ((j : ℕ) → X j ≡ true → before j k ≡ true → Y j ≡ true) → room Y k ≡ true → room X k ≡ true
+  room_le X Y k h e =
       let a = and_parts (A k) (ltb (ahead n A before Y k) (r k)) e in
       let b : ahead n A before Y k < r k = ltb-true _ _ a.1 in
-      let c : ahead n A before X k ≤ ahead n A before Y k = ahead-le X Y k k (λ j x o. (h j x o, o)) in
+      let c : ahead n A before X k ≤ ahead n A before Y k = ahead_le X Y k k (λ j x o. (h j x o, o)) in
       and_from _ _ a.0 (lt-ltb _ _ (omega arith))
 
-  first_part : Keeps-part n (first n A before r)
+  first_part : KeepsPart n (first n A before r)
   first_part X w k e = (and_parts _ _ e).0
 
   first-substitutable : Substitutable n (first n A before r)
   first-substitutable X Y w p k h e =
-      and_right (Y k) _ (⊎_elim (λ o. absurd (both_ways _ e (and_from _ _ h (room-le X Y k (λ j a b. p j a) o)))) (λ o. o) (cases_Bool (room Y k)))
+      and_right (Y k) _ (⊎_elim (λ o. absurd (both_ways _ e (and_from _ _ h (room_le X Y k (λ j a b. p j a) o)))) (λ o. o) (cases_Bool (room Y k)))
 
   apart : (z k : ℕ) → before z k ≡ false → (j : ℕ) → before j k ≡ true → j ≡ z → ⊥
   apart z k f j o e = both_ways _ f (let P : ℕ → Type 0 = λ i. before i k ≡ true in subst P e o)
@@ -50,7 +50,7 @@ module _ (n : ℕ) (A : Set) (before : ℕ → ℕ → Bool) (r : ℕ → ℕ) (
     uncounted k m h =
         let a = and_parts (A k) (ltb (ahead n A before (less X z) k) (r k)) h in
         let b : ahead n A before (less X z) k < r k = ltb-true _ _ a.1 in
-        let c : ahead n A before X k ≤ ahead n A before (less X z) k = passing-le n (λ j. X j && (A j && before j k)) (λ j. less X z j && (A j && before j k)) at in
+        let c : ahead n A before X k ≤ ahead n A before (less X z) k = passing_le n (λ j. X j && (A j && before j k)) (λ j. less X z j && (A j && before j k)) at in
         and_from _ _ a.0 (lt-ltb _ _ (omega arith))
       where
         at : (j : ℕ) → j < n → (X j && (A j && before j k)) ≡ true → (less X z j && (A j && before j k)) ≡ true
@@ -63,15 +63,15 @@ module _ (n : ℕ) (A : Set) (before : ℕ → ℕ → Bool) (r : ℕ → ℕ) (
     behind k zk f h =
         let a : ahead n A before (less X z) k < r k = ltb-true _ _ (and_parts (A k) _ h).1 in
         let b : r z ≤ ahead n A before X z = ltb-false _ _ f in
-        let c : ahead n A before X z ≤ ahead n A before (less X z) z = ahead-le X (less X z) z z (λ j p o. (less_other X z j (apart z z (strict.irreflexive z) j o) ∙ p, o)) in
-        let d : ahead n A before (less X z) z ≤ ahead n A before (less X z) k = ahead-le (less X z) (less X z) z k (λ j p o. (p, strict.transitive j z k o zk)) in
+        let c : ahead n A before X z ≤ ahead n A before (less X z) z = ahead_le X (less X z) z z (λ j p o. (less_other X z j (apart z z (strict.irreflexive z) j o) ∙ p, o)) in
+        let d : ahead n A before (less X z) z ≤ ahead n A before (less X z) k = ahead_le (less X z) (less X z) z k (λ j p o. (p, strict.transitive j z k o zk)) in
         let g : r z ≡ r k = strict.bound z k zk in
         omega arith
 
     back : (k : ℕ) → room (less X z) k ≡ true → room X k ≡ true
     back k h = ⊎_elim
         (λ zk. ⊎_elim (λ m. uncounted k m h) (λ f. absurd (behind k zk f h)) (and_cases (A z) _ shut))
-        (λ zk. room-le X (less X z) k (λ j a o. less_other X z j (apart z k zk j o) ∙ a) h) (cases_Bool (before z k))
+        (λ zk. room_le X (less X z) k (λ j a o. less_other X z j (apart z k zk j o) ∙ a) h) (cases_Bool (before z k))
 
     removed-at : (k : ℕ) → first n A before r (less X z) k ≡ first n A before r X k
     removed-at k = ⊎_elim same differ (cases_eq k z)
@@ -82,14 +82,14 @@ module _ (n : ℕ) (A : Set) (before : ℕ → ℕ → Bool) (r : ℕ → ℕ) (
         differ : (k ≡ z → ⊥) → first n A before r (less X z) k ≡ first n A before r X k
         differ ne =
             ap (λ t. t && room (less X z) k) (less_other X z k ne)
-            ∙ ap (λ t. X k && t) (same_bool _ _ (back k) (room-le (less X z) X k (λ j a o. less-of X z j a)))
+            ∙ ap (λ t. X k && t) (same_bool _ _ (back k) (room_le (less X z) X k (λ j a o. less_of X z j a)))
 
-  pub first-is-lawful : Lawful n (first n A before r)
-  first-is-lawful = record {
+  pub first_is_lawful : Lawful n (first n A before r)
+  first_is_lawful = record {
     part = first_part;
     substitutable = first-substitutable;
-    irrelevant = one-removed n (first n A before r) first_part (λ X w z x e. fun_ext (removed-at X z x e));
+    irrelevant = one_removed n (first n A before r) first_part (λ X w z x e. fun_ext (removed-at X z x e));
   }
 
-pub first-lawful : First-lawful
-first-lawful n A before r strict = first-is-lawful n A before r strict
+pub first-lawful : FirstLawful
+first-lawful n A before r strict = first_is_lawful n A before r strict

@@ -3,13 +3,13 @@ use Rattle.std.proofs.Common.{◌≡◌, ℕ, Bool, true, false, ◌||◌, ◌�
 use Rattle.std.proofs.lemmas.Bool.{or_cases, or_left, or_right, cases_Bool, both_ways}
 use Rattle.matching.specs.Sets.{Set, union, Part, Within}
 use Rattle.matching.specs.Choices.{Choice, Lawful}
-use Rattle.matching.specs.Facts.{Settled, Path-independent}
+use Rattle.matching.specs.Facts.{Settled, PathIndependent}
 
 pub settled : Settled
 settled n kept law X w = law.irrelevant X (kept X) w (law.part X w) (λ k h. h)
 
-pub path-independent : Path-independent
-path-independent n kept law X Y wx wy = sym (law.irrelevant (union X Y) (union (kept X) (kept Y)) w small all)
+pub path_independent : PathIndependent
+path_independent n kept law X Y wx wy = sym (law.irrelevant (union X Y) (union (kept X) (kept Y)) w small all)
   where
     w : Within n (union X Y)
     w k h = ⊎_elim (λ a. wx k a) (λ a. wy k a) (or_cases (X k) (Y k) h)

@@ -3,14 +3,14 @@ use Rattle.std.proofs.Common.{◌≡◌, ℕ, ◌<◌, Bool, true, false, not, �
 use Rattle.std.proofs.lemmas.Bool.{both_ways, cases_Bool, or_cases, or_left, or_right, eqb-true, eq-eqb, ne_eqb, and_parts, and_from, not-true, not_from_false}
 use Rattle.matching.specs.Sets.{Set, add, minus, less, Part, Within}
 
-pub add-self : (X : Set) (k : ℕ) → add X k k ≡ true
-add-self X k = or_left (eqb k k) (X k) (eq-eqb k k refl)
+pub add_self : (X : Set) (k : ℕ) → add X k k ≡ true
+add_self X k = or_left (eqb k k) (X k) (eq-eqb k k refl)
 
-pub add-old : (X : Set) (k j : ℕ) → X j ≡ true → add X k j ≡ true
-add-old X k j h = or_right (eqb j k) (X j) h
+pub add_old : (X : Set) (k j : ℕ) → X j ≡ true → add X k j ≡ true
+add_old X k j h = or_right (eqb j k) (X j) h
 
-pub add-cases : (X : Set) (k j : ℕ) → add X k j ≡ true → (j ≡ k) ⊎ (X j ≡ true)
-add-cases X k j h = elim (or_cases (eqb j k) (X j) h) [ inl e ↦ inl (eqb-true j k e) | inr x ↦ inr x ]
+pub add_cases : (X : Set) (k j : ℕ) → add X k j ≡ true → (j ≡ k) ⊎ (X j ≡ true)
+add_cases X k j h = elim (or_cases (eqb j k) (X j) h) [ inl e ↦ inl (eqb-true j k e) | inr x ↦ inr x ]
 
 pub outside : (X : Set) (k : ℕ) → (X k ≡ true → ⊥) → X k ≡ false
 outside X k h = elim (cases_Bool (X k)) [ inl t ↦ absurd (h t) | inr f ↦ f ]
@@ -18,42 +18,42 @@ outside X k h = elim (cases_Bool (X k)) [ inl t ↦ absurd (h t) | inr f ↦ f ]
 pub inside : (X : Set) (k : ℕ) → (X k ≡ false → ⊥) → X k ≡ true
 inside X k h = elim (cases_Bool (X k)) [ inl t ↦ t | inr f ↦ absurd (h f) ]
 
-pub minus-in : (X B : Set) (k : ℕ) → X k ≡ true → B k ≡ false → minus X B k ≡ true
-minus-in X B k x b = and_from (X k) _ x (not_from_false (B k) b)
+pub minus_in : (X B : Set) (k : ℕ) → X k ≡ true → B k ≡ false → minus X B k ≡ true
+minus_in X B k x b = and_from (X k) _ x (not_from_false (B k) b)
 
-pub minus-of : (X B : Set) (k : ℕ) → minus X B k ≡ true → X k ≡ true
-minus-of X B k h = (and_parts (X k) _ h).0
+pub minus_of : (X B : Set) (k : ℕ) → minus X B k ≡ true → X k ≡ true
+minus_of X B k h = (and_parts (X k) _ h).0
 
-pub minus-out : (X B : Set) (k : ℕ) → minus X B k ≡ true → B k ≡ false
-minus-out X B k h = not-true (B k) (and_parts (X k) _ h).1
+pub minus_out : (X B : Set) (k : ℕ) → minus X B k ≡ true → B k ≡ false
+minus_out X B k h = not-true (B k) (and_parts (X k) _ h).1
 
-pub within-part : (n : ℕ) (X Y : Set) → Within n Y → Part X Y → Within n X
-within-part n X Y w p k x = w k (p k x)
+pub within_part : (n : ℕ) (X Y : Set) → Within n Y → Part X Y → Within n X
+within_part n X Y w p k x = w k (p k x)
 
 -- what lies within a list has nothing outside it
-pub out-of-part : (X Y : Set) → Part X Y → (k : ℕ) → Y k ≡ false → X k ≡ false
-out-of-part X Y p k h = outside X k (λ x. both_ways (Y k) h (p k x))
+pub out_of_part : (X Y : Set) → Part X Y → (k : ℕ) → Y k ≡ false → X k ≡ false
+out_of_part X Y p k h = outside X k (λ x. both_ways (Y k) h (p k x))
 
 pub same_bool : (a b : Bool) → (a ≡ true → b ≡ true) → (b ≡ true → a ≡ true) → a ≡ b
 same_bool true b f g = sym (f refl)
 same_bool false true f g = g refl
 same_bool false false f g = refl
 
-pub and-true : (a : Bool) → (a && true) ≡ a
-and-true true = refl
-and-true false = refl
+pub and_true : (a : Bool) → (a && true) ≡ a
+and_true true = refl
+and_true false = refl
 
-pub or-true : (a : Bool) → (a || true) ≡ true
-or-true true = refl
-or-true false = refl
+pub or_true : (a : Bool) → (a || true) ≡ true
+or_true true = refl
+or_true false = refl
 
-pub or-false : (a : Bool) → (a || false) ≡ a
-or-false true = refl
-or-false false = refl
+pub or_false : (a : Bool) → (a || false) ≡ a
+or_false true = refl
+or_false false = refl
 
 -- all but the removed one stay
 pub less_other : (X : Set) (z j : ℕ) → (j ≡ z → ⊥) → less X z j ≡ X j
-less_other X z j ne = ap (λ t. X j && not t) (ne_eqb j z ne) ∙ and-true (X j)
+less_other X z j ne = ap (λ t. X j && not t) (ne_eqb j z ne) ∙ and_true (X j)
 
-pub less-of : (X : Set) (z : ℕ) → Part (less X z) X
-less-of X z j h = (and_parts (X j) _ h).0
+pub less_of : (X : Set) (z : ℕ) → Part (less X z) X
+less_of X z j h = (and_parts (X j) _ h).0

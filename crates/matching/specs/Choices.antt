@@ -8,8 +8,8 @@ abbrev pub Choice : Type 0
 Choice = Set → Set
 
 -- what is kept of a list is a part of it
-abbrev pub Keeps-part : ℕ → Choice → Type 0
-Keeps-part n kept = (X : Set) → Within n X → Part (kept X) X
+abbrev pub KeepsPart : ℕ → Choice → Type 0
+KeepsPart n kept = (X : Set) → Within n X → Part (kept X) X
 
 -- substitutability: a contract of X that is not kept of X is kept of no list that contains X
 abbrev pub Substitutable : ℕ → Choice → Type 0
@@ -20,7 +20,7 @@ abbrev pub Irrelevant : ℕ → Choice → Type 0
 Irrelevant n kept = (X Y : Set) → Within n X → Part Y X → Part (kept X) Y → kept Y ≡ kept X
 
 pub record Lawful (n : ℕ) (kept : Choice) : Type 0 where
-  pub part : Keeps-part n kept
+  pub part : KeepsPart n kept
   pub substitutable : Substitutable n kept
   pub irrelevant : Irrelevant n kept
 

@@ -15,5 +15,5 @@ abbrev pub passing : ℕ → (ℕ → Bool) → ℕ
 passing n w = total n (λ k. cond (w k) 1 0)
 
 -- a bag that holds exactly those who pass, each once, is as large as their number
-abbrev pub Those-counted : Type 0
-Those-counted = (n : ℕ) (w : ℕ → Bool) (xs : List ℕ) → ((k : ℕ) → n ≤ k → w k ≡ false) → ((k : ℕ) → times k xs ≡ cond (w k) 1 0) → length xs ≡ passing n w
+abbrev pub ThoseCounted : Type 0
+ThoseCounted = (n : ℕ) (w : ℕ → Bool) (xs : List ℕ) → ((k : ℕ) → n ≤ k → w k ≡ false) → ((k : ℕ) → times k xs ≡ cond (w k) 1 0) → length xs ≡ passing n w

@@ -17,9 +17,9 @@ pub record Takes (manner : Move) (xs : List ℕ) (t : ℕ) (ys : List ℕ) : Typ
   pub order : manner xs t ys
 
 -- those of ts join one after another
-abbrev pub All-join : Move → List ℕ → List ℕ → List ℕ → Type 0
-All-join manner xs [] ys = ys ≡ xs
-All-join manner xs (t ∷ ts) ys = (m : List ℕ) × Joins manner xs t m × All-join manner m ts ys
+abbrev pub AllJoin : Move → List ℕ → List ℕ → List ℕ → Type 0
+AllJoin manner xs [] ys = ys ≡ xs
+AllJoin manner xs (t ∷ ts) ys = (m : List ℕ) × Joins manner xs t m × AllJoin manner m ts ys
 
 -- the manner of a line that says no more than the bag
 abbrev pub any : Move

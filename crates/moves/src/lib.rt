@@ -1,9 +1,9 @@
 // How waiting trainees move, as mathematics: a bag of trainees, one who joins, one who is taken.
-ghost use Rattle.moves.specs.Bags.{Those-counted};
+ghost use Rattle.moves.specs.Bags.{ThoseCounted};
 
 // Where just those wait of whom a test is true, each once, there are as many as the test counts.
 pub fn those_are_counted() -> bool
-    ensures { Those-counted }
+    ensures { ThoseCounted }
 {
     true
 }

@@ -3,13 +3,13 @@ use Rattle.std.proofs.Common.{◌≡◌, ℕ, ◌+◌, ◌<◌, ◌≤◌, List,
 use Rattle.std.proofs.lemmas.List.{length-set, get_or-set_same, get_or-set_other, get_or-replicate}
 use Rattle.std.proofs.lemmas.Bool.{cases_lt, cases_eq, cond-true, cond-false, lt-ltb, le-ltb}
 use Rattle.rules.specs.declared.table.Group.{Group}
-use Rattle.rules.specs.Contents.{groupAt}
+use Rattle.rules.specs.Contents.{group_at}
 use Rattle.deck.specs.Facts.{Earlier as Earlier-groups}
 use Rattle.quota.specs.declared.row.Row.{Row}
-use Rattle.quota.specs.Caps.{row_at, parent_of, given-row, Earlier}
+use Rattle.quota.specs.Caps.{row_at, parent_of, given_row, Earlier}
 
 abbrev pub row_of : List Group → ℕ → Row
-row_of gs v = record { parent = (groupAt gs v).parent; cap = (groupAt gs v).capacity }
+row_of gs v = record { parent = (group_at gs v).parent; cap = (group_at gs v).capacity }
 
 -- the first n rows are written
 pub record Made (gs : List Group) (rows : List Row) (n : ℕ) : Type 0 where
@@ -26,12 +26,12 @@ made_more gs rows n l m = record {
 }
 
 module _ (gs : List Group) (rows : List Row) (m : Made gs rows (length gs)) where
-  pub made_all : (v : ℕ) → v < 64 → row_at rows v ≡ given-row gs v
+  pub made_all : (v : ℕ) → v < 64 → row_at rows v ≡ given_row gs v
   made_all v l = ⊎_elim (λ h. m.done v h ∙ sym (cond-true _ _ _ (lt-ltb _ _ h))) (λ h. m.rest v h l ∙ sym (cond-false _ _ _ (le-ltb _ _ h))) (cases_lt v (length gs))
 
-  pub made-earlier : Earlier-groups gs → Earlier rows
-  made-earlier ea v l p = ⊎_elim
-      (λ h. let e : parent_of rows v ≡ (groupAt gs v).parent = ap (λ r. r.parent) (m.done v h) in let q = ea v h (λ z. omega arith) in omega arith)
+  pub made_earlier : Earlier-groups gs → Earlier rows
+  made_earlier ea v l p = ⊎_elim
+      (λ h. let e : parent_of rows v ≡ (group_at gs v).parent = ap (λ r. r.parent) (m.done v h) in let q = ea v h (λ z. omega arith) in omega arith)
       (λ h. absurd (let e : parent_of rows v ≡ 255 = ap (λ r. r.parent) (m.rest v h l) in omega arith)) (cases_lt v (length gs))
 
 pub made_none : (gs : List Group) (rows : List Row) → rows ≡ replicate 64 (record { parent = 255; cap = 0 }) → Made gs rows 0

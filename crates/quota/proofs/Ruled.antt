@@ -3,12 +3,12 @@ use Rattle.std.proofs.Common.{◌≡◌, ℕ, zero, suc, ◌<◌, ◌≤◌, Boo
 use Rattle.std.proofs.lemmas.List.{get_or_past}
 use Rattle.std.proofs.lemmas.Bool.{and_parts, and_from, and_cases, both_ways, cases_Bool, cases_lt, cond-true, cond-false, ltb-true, ltb-false, lt-ltb}
 use Rattle.rules.specs.declared.table.Contract.{Contract}
-use Rattle.rules.specs.Contents.{contractAt}
+use Rattle.rules.specs.Contents.{contract_at}
 use Rattle.matching.specs.Sets.{Set}
 use Rattle.quota.specs.declared.row.Row.{Row}
-use Rattle.quota.specs.Caps.{parent_of, cap_of, directly, F, has-place, upwards, first-full, Earlier}
+use Rattle.quota.specs.Caps.{parent_of, cap_of, directly, F, has_place, upwards, first_full, Earlier}
 use Rattle.quota.specs.Rule.{Up, here, there, Stops, Rule}
-use Rattle.quota.specs.Tree.{upwards-none, upwards-suc, first-full-suc, upwards-all, upwards-from}
+use Rattle.quota.specs.Tree.{upwards_none, upwards_suc, first_full_suc, upwards_all, upwards_from}
 use Rattle.quota.specs.Laws.{filled_is}
 
 module _ (par : ℕ → ℕ) (ea : (v : ℕ) → v < 64 → par v < 64 → par v < v) where
@@ -40,44 +40,44 @@ module _ (par : ℕ → ℕ) (ea : (v : ℕ) → v < 64 → par v < 64 → par v
     first-there : (v u : ℕ) → ok v ≡ true → par v < 64 → First (par v) u → First v u
     first-there v u o p f = (there p f.0, f.1, passed v u o f.2)
 
-    first-is : (t v : ℕ) → upwards par ok t v ≡ false → First v (first-full par ok t v)
-    first-is zero v e = absurd (both_ways _ e (upwards-none par ok v))
+    first-is : (t v : ℕ) → upwards par ok t v ≡ false → First v (first_full par ok t v)
+    first-is zero v e = absurd (both_ways _ e (upwards_none par ok v))
     first-is (suc t) v e =
         let P : ℕ → Type 0 = λ u. First v u in
-        subst P (sym (first-full-suc par ok t v))
+        subst P (sym (first_full_suc par ok t v))
         (⊎_elim (λ o. subst P (sym (cond-true _ _ _ o)) (goes_on o (λ f. first-is t (par v) f))) (λ o. subst P (sym (cond-false _ _ _ o)) (first-here v o)) (cases_Bool (ok v)))
       where
         rest : ok v ≡ true → cond (ltb (par v) 64) (upwards par ok t (par v)) true ≡ false
-        rest o = ⊎_elim (λ n. absurd (both_ways _ n o)) (λ n. n) (and_cases _ _ (sym (upwards-suc par ok t v) ∙ e))
+        rest o = ⊎_elim (λ n. absurd (both_ways _ n o)) (λ n. n) (and_cases _ _ (sym (upwards_suc par ok t v) ∙ e))
 
-        goes_on : ok v ≡ true → (upwards par ok t (par v) ≡ false → First (par v) (first-full par ok t (par v))) → First v (first-full par ok t (par v))
+        goes_on : ok v ≡ true → (upwards par ok t (par v) ≡ false → First (par v) (first_full par ok t (par v))) → First v (first_full par ok t (par v))
         goes_on o ih = ⊎_elim
-            (λ p. first-there v (first-full par ok t (par v)) o (ltb-true _ _ p) (ih (sym (cond-true _ _ _ p) ∙ rest o)))
+            (λ p. first-there v (first_full par ok t (par v)) o (ltb-true _ _ p) (ih (sym (cond-true _ _ _ p) ∙ rest o)))
             (λ p. absurd (both_ways _ (sym (cond-false (ltb (par v) 64) (upwards par ok t (par v)) true p) ∙ rest o) refl)) (cases_Bool (ltb (par v) 64))
 
 module _ (rows : List Row) (ea : Earlier rows) (len : length rows ≡ 64) (cs : List Contract) where
   -- a group that passes at all is one of the 64
-  real : (X : Set) (k v : ℕ) → has-place rows cs X k v ≡ true → v < 64
+  real : (X : Set) (k v : ℕ) → has_place rows cs X k v ≡ true → v < 64
   real X k v e = ⊎_elim (λ i. i)
       (λ i. absurd (let a : cap_of rows v ≡ 0 = ap (λ r. r.cap) (get_or_past rows v _ (omega arith)) in let b = ltb-true _ _ e in omega arith)) (cases_lt v 64)
 
-  all_pass : (X : Set) (k : ℕ) → upwards (parent_of rows) (has-place rows cs X k) 64 (contractAt cs k).group ≡ true
-      → (v : ℕ) → Up (parent_of rows) (contractAt cs k).group v → F rows cs v X k < cap_of rows v
+  all_pass : (X : Set) (k : ℕ) → upwards (parent_of rows) (has_place rows cs X k) 64 (contract_at cs k).group ≡ true
+      → (v : ℕ) → Up (parent_of rows) (contract_at cs k).group v → F rows cs v X k < cap_of rows v
   all_pass X k e v u =
-      let o = (and_parts _ _ (sym (upwards-suc (parent_of rows) (has-place rows cs X k) 63 (contractAt cs k).group) ∙ e)).0 in
-      let l = real X k (contractAt cs k).group o in
-      ltb-true _ _ (upwards-all (parent_of rows) (has-place rows cs X k) ea 64 (contractAt cs k).group l l e v u)
+      let o = (and_parts _ _ (sym (upwards_suc (parent_of rows) (has_place rows cs X k) 63 (contract_at cs k).group) ∙ e)).0 in
+      let l = real X k (contract_at cs k).group o in
+      ltb-true _ _ (upwards_all (parent_of rows) (has_place rows cs X k) ea 64 (contract_at cs k).group l l e v u)
 
-  stops : (X : Set) (k : ℕ) → upwards (parent_of rows) (has-place rows cs X k) 64 (contractAt cs k).group ≡ false
-      → Stops rows cs X k (first-full (parent_of rows) (has-place rows cs X k) 64 (contractAt cs k).group)
+  stops : (X : Set) (k : ℕ) → upwards (parent_of rows) (has_place rows cs X k) 64 (contract_at cs k).group ≡ false
+      → Stops rows cs X k (first_full (parent_of rows) (has_place rows cs X k) 64 (contract_at cs k).group)
   stops X k e =
-      let f = first-is (parent_of rows) ea (has-place rows cs X k) 64 (contractAt cs k).group e in
+      let f = first-is (parent_of rows) ea (has_place rows cs X k) 64 (contract_at cs k).group e in
       record { up = f.0; full = ltb-false _ _ f.1; first = λ w a b ne. ltb-true _ _ (f.2 w a b ne) }
 
   pub ruled : Rule rows cs
   ruled = record {
     filled = λ X k v l. filled_is rows ea (directly cs X k) v l;
     kept = λ X k e. let p = and_parts _ _ e in (p.0, all_pass X k p.1);
-    keeps = λ X k x h. and_from _ _ x (upwards-from (parent_of rows) (has-place rows cs X k) 64 (contractAt cs k).group (λ w u. lt-ltb _ _ (h w u)));
+    keeps = λ X k x h. and_from _ _ x (upwards_from (parent_of rows) (has_place rows cs X k) 64 (contract_at cs k).group (λ w u. lt-ltb _ _ (h w u)));
     stopped = λ X k x e. stops X k (⊎_elim (λ n. absurd (both_ways _ n x)) (λ n. n) (and_cases _ _ e));
   }

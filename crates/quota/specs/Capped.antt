@@ -5,14 +5,14 @@ use Rattle.std.proofs.Math.Path.{fun_ext}
 use Rattle.std.proofs.lemmas.Bool.{and_parts, and_from, and_left, and_right, and_cases, not_from_true, cases_Bool, cases_eq, cases_lt, both_ways, eq-eqb, eqb-true, ltb-true, ltb-false, lt-ltb, cond-false}
 use Rattle.moves.specs.Bags.{passing}
 use Rattle.matching.specs.Sets.{Set, less}
-use Rattle.matching.specs.Choices.{Keeps-part, Substitutable, Lawful}
-use Rattle.matching.proofs.Sets.{same_bool, less_other, less-of}
-use Rattle.matching.proofs.Sums.{passing-le}
-use Rattle.matching.proofs.Thinning.{one-removed}
+use Rattle.matching.specs.Choices.{KeepsPart, Substitutable, Lawful}
+use Rattle.matching.proofs.Sets.{same_bool, less_other, less_of}
+use Rattle.matching.proofs.Sums.{passing_le}
+use Rattle.matching.proofs.Thinning.{one_removed}
 use Rattle.quota.specs.Caps.{across, upwards}
 use Rattle.quota.specs.Rule.{Up, here, there}
-use Rattle.quota.specs.Sums.{across-le, across-same}
-use Rattle.quota.specs.Tree.{up-trans, down, upwards-suc, upwards-all, upwards-from, upwards-fails}
+use Rattle.quota.specs.Sums.{across_le, across_same}
+use Rattle.quota.specs.Tree.{up_trans, down, upwards_suc, upwards_all, upwards_from, upwards_fails}
 
 -- caps on a tree, and an order of the n contracts
 pub record Caps : Type 0 where
@@ -49,8 +49,8 @@ module _ (T : Caps) (G : ℕ → Set → ℕ → ℕ) (eqn : Fills T G) where
   abbrev Less : Set → ℕ → Set → ℕ → Type 0
   Less X k Y l = (j : ℕ) → j < T.n → X j ≡ true → T.ord j k ≡ true → (Y j ≡ true) × (T.ord j l ≡ true)
 
-  own-le : (X Y : Set) (k l : ℕ) → Less X k Y l → (v : ℕ) → own T v X k ≤ own T v Y l
-  own-le X Y k l h v = passing-le T.n (λ j. X j && (T.grp j == v && T.ord j k)) (λ j. Y j && (T.grp j == v && T.ord j l)) at
+  own_le : (X Y : Set) (k l : ℕ) → Less X k Y l → (v : ℕ) → own T v X k ≤ own T v Y l
+  own_le X Y k l h v = passing_le T.n (λ j. X j && (T.grp j == v && T.ord j k)) (λ j. Y j && (T.grp j == v && T.ord j l)) at
     where
       at : (j : ℕ) → j < T.n → (X j && (T.grp j == v && T.ord j k)) ≡ true → (Y j && (T.grp j == v && T.ord j l)) ≡ true
       at j i e =
@@ -59,9 +59,9 @@ module _ (T : Caps) (G : ℕ → Set → ℕ → ℕ) (eqn : Fills T G) where
           let c = h j i a.0 b.1 in
           and_from _ _ c.0 (and_from _ _ b.0 c.1)
 
-  cond-le : (b : Bool) (x y : ℕ) → (b ≡ true → x ≤ y) → cond b x 0 ≤ cond b y 0
-  cond-le true x y h = h refl
-  cond-le false x y h = omega arith
+  cond_le : (b : Bool) (x y : ℕ) → (b ≡ true → x ≤ y) → cond b x 0 ≤ cond b y 0
+  cond_le true x y h = h refl
+  cond_le false x y h = omega arith
 
   child : (c v : ℕ) → c < 64 → v < 64 → (T.par c == v) ≡ true → v < c
   child c v i l e =
@@ -74,37 +74,37 @@ module _ (T : Caps) (G : ℕ → Set → ℕ → ℕ) (eqn : Fills T G) where
     where
       step : (v : ℕ) → v < 64 → ((c : ℕ) → v < c → c < 64 → G c X k ≤ G c Y l) → G v X k ≤ G v Y l
       step v i ih =
-          let a : kids T G v X k ≤ kids T G v Y l = across-le (λ c. cond (T.par c == v) (G c X k) 0) (λ c. cond (T.par c == v) (G c Y l) 0) (λ c j. cond-le (T.par c == v) (G c X k) (G c Y l) (λ e. ih c (child c v j i e) j)) in
-          let b : own T v X k ≤ own T v Y l = own-le X Y k l h v in
+          let a : kids T G v X k ≤ kids T G v Y l = across_le (λ c. cond (T.par c == v) (G c X k) 0) (λ c. cond (T.par c == v) (G c Y l) 0) (λ c j. cond_le (T.par c == v) (G c X k) (G c Y l) (λ e. ih c (child c v j i e) j)) in
+          let b : own T v X k ≤ own T v Y l = own_le X Y k l h v in
           let e = eqn v X k i in
           let f = eqn v Y l i in
           omega (arith, e, f)
 
-  open-le : (X Y : Set) (k l : ℕ) → Less X k Y l → (v : ℕ) → ok Y l v ≡ true → ok X k v ≡ true
-  open-le X Y k l h v e = ⊎_elim (λ i. lt-ltb _ _ (let a = more X Y k l h v i in let b = ltb-true _ _ e in omega arith))
+  open_le : (X Y : Set) (k l : ℕ) → Less X k Y l → (v : ℕ) → ok Y l v ≡ true → ok X k v ≡ true
+  open_le X Y k l h v e = ⊎_elim (λ i. lt-ltb _ _ (let a = more X Y k l h v i in let b = ltb-true _ _ e in omega arith))
       (λ i. absurd (let a = T.none v i in let b = ltb-true _ _ e in omega arith)) (cases_lt v 64)
 
   -- a group that passes at all is one of the 64
   real : (X : Set) (k v : ℕ) → ok X k v ≡ true → v < 64
   real X k v e = ⊎_elim (λ i. i) (λ i. absurd (let a = T.none v i in let b = ltb-true _ _ e in omega arith)) (cases_lt v 64)
 
-  pass-first : (X : Set) (k : ℕ) → upwards T.par (ok X k) 64 (T.grp k) ≡ true → ok X k (T.grp k) ≡ true
-  pass-first X k e = (and_parts (ok X k (T.grp k)) (cond (nat_lt (T.par (T.grp k)) 64) (upwards T.par (ok X k) 63 (T.par (T.grp k))) true) (sym (upwards-suc T.par (ok X k) 63 (T.grp k)) ∙ e)).0
+  pass_first : (X : Set) (k : ℕ) → upwards T.par (ok X k) 64 (T.grp k) ≡ true → ok X k (T.grp k) ≡ true
+  pass_first X k e = (and_parts (ok X k (T.grp k)) (cond (nat_lt (T.par (T.grp k)) 64) (upwards T.par (ok X k) 63 (T.par (T.grp k))) true) (sym (upwards_suc T.par (ok X k) 63 (T.grp k)) ∙ e)).0
 
   pass_all : (X : Set) (k : ℕ) → upwards T.par (ok X k) 64 (T.grp k) ≡ true → (w : ℕ) → Up T.par (T.grp k) w → ok X k w ≡ true
   pass_all X k e =
-      let l = real X k (T.grp k) (pass-first X k e) in
-      upwards-all T.par (ok X k) T.earlier 64 (T.grp k) l l e
+      let l = real X k (T.grp k) (pass_first X k e) in
+      upwards_all T.par (ok X k) T.earlier 64 (T.grp k) l l e
 
-  pass-by : (X Y : Set) (k : ℕ) → ((w : ℕ) → Up T.par (T.grp k) w → ok Y k w ≡ true → ok X k w ≡ true)
+  pass_by : (X Y : Set) (k : ℕ) → ((w : ℕ) → Up T.par (T.grp k) w → ok Y k w ≡ true → ok X k w ≡ true)
       → upwards T.par (ok Y k) 64 (T.grp k) ≡ true → upwards T.par (ok X k) 64 (T.grp k) ≡ true
-  pass-by X Y k h e = upwards-from T.par (ok X k) 64 (T.grp k) (λ w u. h w u (pass_all Y k e w u))
+  pass_by X Y k h e = upwards_from T.par (ok X k) 64 (T.grp k) (λ w u. h w u (pass_all Y k e w u))
 
   pass_le : (X Y : Set) (k : ℕ) → Less X k Y k → upwards T.par (ok Y k) 64 (T.grp k) ≡ true → upwards T.par (ok X k) 64 (T.grp k) ≡ true
-  pass_le X Y k h = pass-by X Y k (λ w u. open-le X Y k k h w)
+  pass_le X Y k h = pass_by X Y k (λ w u. open_le X Y k k h w)
 
-  chosen-part : Keeps-part T.n (chosen T G)
-  chosen-part X w k e = (and_parts _ _ e).0
+  chosen_part : KeepsPart T.n (chosen T G)
+  chosen_part X w k e = (and_parts _ _ e).0
 
   chosen-substitutable : Substitutable T.n (chosen T G)
   chosen-substitutable X Y inside w k h e =
@@ -178,17 +178,17 @@ module _ (T : Caps) (G : ℕ → Set → ℕ → ℕ) (eqn : Fills T G) where
 
             even : nat_eq (T.grp z) v ≡ false → ((c : ℕ) → c < 64 → cond (T.par c == v) (G c (less X z) k) 0 ≡ cond (T.par c == v) (G c X k) 0) → G v (less X z) k ≡ G v X k
             even g s =
-                let a : kids T G v (less X z) k ≡ kids T G v X k = across-same (λ c. cond (T.par c == v) (G c (less X z) k) 0) (λ c. cond (T.par c == v) (G c X k) 0) s in
+                let a : kids T G v (less X z) k ≡ kids T G v X k = across_same (λ c. cond (T.par c == v) (G c (less X z) k) 0) (λ c. cond (T.par c == v) (G c X k) 0) s in
                 let b : own T v (less X z) k ≡ own T v X k = own_same v g in
                 let e = eqn v (less X z) k l in
                 let f = eqn v X k l in
                 omega (arith, e, f)
 
     below : upwards T.par (ok (less X z) k) 64 (T.grp k) ≡ true → upwards T.par (ok X k) 64 (T.grp k) ≡ true
-    below e = pass-by X (less X z) k at e
+    below e = pass_by X (less X z) k at e
       where
         at : (w : ℕ) → Up T.par (T.grp k) w → ok (less X z) k w ≡ true → ok X k w ≡ true
-        at w a o = ⊎_elim (λ q. ap (λ x. ltb x (T.cap w)) (sym q) ∙ o) (λ q. absurd (never (up-trans a (there q.0 q.1)))) (seen w (real (less X z) k w o))
+        at w a o = ⊎_elim (λ q. ap (λ x. ltb x (T.cap w)) (sym q) ∙ o) (λ q. absurd (never (up_trans a (there q.0 q.1)))) (seen w (real (less X z) k w o))
           where
             never : Up T.par (T.grp k) u → ⊥
             never b =
@@ -206,7 +206,7 @@ module _ (T : Caps) (G : ℕ → Set → ℕ → ℕ) (eqn : Fills T G) where
     apart k f j o q = both_ways _ f (let P : ℕ → Type 0 = λ i. T.ord i k ≡ true in subst P q o)
 
     back : (k : ℕ) → upwards T.par (ok (less X z) k) 64 (T.grp k) ≡ true → upwards T.par (ok X k) 64 (T.grp k) ≡ true
-    back k = ⊎_elim (λ zk. let f = upwards-fails T.par (ok X z) 64 (T.grp z) shut in below X z f.0 f.1 f.2 k zk)
+    back k = ⊎_elim (λ zk. let f = upwards_fails T.par (ok X z) 64 (T.grp z) shut in below X z f.0 f.1 f.2 k zk)
         (λ zk. pass_le X (less X z) k (λ j i a o. (less_other X z j (apart k zk j o) ∙ a, o))) (cases_Bool (T.ord z k))
 
     removed-at : (k : ℕ) → chosen T G (less X z) k ≡ chosen T G X k
@@ -218,11 +218,11 @@ module _ (T : Caps) (G : ℕ → Set → ℕ → ℕ) (eqn : Fills T G) where
         differ : (k ≢ z) → chosen T G (less X z) k ≡ chosen T G X k
         differ ne =
             ap (λ t. t && upwards T.par (ok (less X z) k) 64 (T.grp k)) (less_other X z k ne)
-            ∙ ap (λ t. X k && t) (same_bool _ _ (back k) (pass_le (less X z) X k (λ j i a o. (less-of X z j a, o))))
+            ∙ ap (λ t. X k && t) (same_bool _ _ (back k) (pass_le (less X z) X k (λ j i a o. (less_of X z j a, o))))
 
   pub chosen-lawful : Lawful T.n (chosen T G)
   chosen-lawful = record {
-    part = chosen-part;
+    part = chosen_part;
     substitutable = chosen-substitutable;
-    irrelevant = one-removed T.n (chosen T G) chosen-part (λ X w z x e. fun_ext (removed-at X z x e));
+    irrelevant = one_removed T.n (chosen T G) chosen_part (λ X w z x e. fun_ext (removed-at X z x e));
   }

@@ -2,7 +2,7 @@
 use Rattle.std.specs.Prelude.{ℕ, zero, suc, ◌+◌, ◌<◌, min, Bool, true, false, cond, ◌&&◌, List, length, ◌==◌, nat_lt, slice_index_or}
 use Rattle.rules.specs.declared.table.Contract.{Contract}
 use Rattle.rules.specs.declared.table.Group.{Group}
-use Rattle.rules.specs.Contents.{contractAt, groupAt}
+use Rattle.rules.specs.Contents.{contract_at, group_at}
 use Rattle.moves.specs.Bags.{total, passing}
 use Rattle.matching.specs.Sets.{Set}
 use Rattle.ranking.specs.Rank.{above}
@@ -22,9 +22,9 @@ abbrev pub Earlier : List Row → Type 0
 Earlier rows = (v : ℕ) → v < 64 → parent_of rows v < 64 → parent_of rows v < v
 
 -- the row for group v of a deck: no parent and cap 0 where the deck has no such group
-abbrev pub given-row : List Group → ℕ → Row
-given-row gs v =
-    cond (nat_lt v (length gs)) (record { parent = (groupAt gs v).parent; cap = (groupAt gs v).capacity }) (record { parent = 255; cap = 0 })
+abbrev pub given_row : List Group → ℕ → Row
+given_row gs v =
+    cond (nat_lt v (length gs)) (record { parent = (group_at gs v).parent; cap = (group_at gs v).capacity }) (record { parent = 255; cap = 0 })
 
 -- the sum over the 64 groups
 unfoldable pub across : (ℕ → ℕ) → ℕ
@@ -43,14 +43,14 @@ filled rows own (suc t) v =
 
 -- how many contracts of X directly in v rank above k
 abbrev pub directly : List Contract → Set → ℕ → ℕ → ℕ
-directly cs X k v = passing (length cs) (λ j. X j && ((contractAt cs j).group == v && above cs j k))
+directly cs X k v = passing (length cs) (λ j. X j && ((contract_at cs j).group == v && above cs j k))
 
 abbrev pub F : List Row → List Contract → ℕ → Set → ℕ → ℕ
 F rows cs v X k = filled rows (directly cs X k) 64 v
 
 -- has group v a place for k?
-abbrev pub has-place : List Row → List Contract → Set → ℕ → ℕ → Bool
-has-place rows cs X k v = nat_lt (F rows cs v X k) (cap_of rows v)
+abbrev pub has_place : List Row → List Contract → Set → ℕ → ℕ → Bool
+has_place rows cs X k v = nat_lt (F rows cs v X k) (cap_of rows v)
 
 -- do v and all groups above it pass?
 unfoldable pub upwards : (ℕ → ℕ) → (ℕ → Bool) → ℕ → ℕ → Bool
@@ -58,17 +58,17 @@ upwards par ok zero v = true
 upwards par ok (suc t) v = ok v && elim (nat_lt (par v) 64) [ true ↦ upwards par ok t (par v) | false ↦ true ]
 
 -- the first v upwards that fails
-unfoldable pub first-full : (ℕ → ℕ) → (ℕ → Bool) → ℕ → ℕ → ℕ
-first-full par ok zero v = v
-first-full par ok (suc t) v = elim (ok v) [ true ↦ first-full par ok t (par v) | false ↦ v ]
+unfoldable pub first_full : (ℕ → ℕ) → (ℕ → Bool) → ℕ → ℕ → ℕ
+first_full par ok zero v = v
+first_full par ok (suc t) v = elim (ok v) [ true ↦ first_full par ok t (par v) | false ↦ v ]
 
 -- what is kept of X
 abbrev pub quota : List Row → List Contract → Set → Set
-quota rows cs X k = X k && upwards (parent_of rows) (has-place rows cs X k) 64 (contractAt cs k).group
+quota rows cs X k = X k && upwards (parent_of rows) (has_place rows cs X k) 64 (contract_at cs k).group
 
 -- the group at which k is stopped, where it is not kept
-abbrev pub stopped-at : List Row → List Contract → Set → ℕ → ℕ
-stopped-at rows cs X k = first-full (parent_of rows) (has-place rows cs X k) 64 (contractAt cs k).group
+abbrev pub stopped_at : List Row → List Contract → Set → ℕ → ℕ
+stopped_at rows cs X k = first_full (parent_of rows) (has_place rows cs X k) 64 (contract_at cs k).group
 
-abbrev pub quota-reason : List Row → List Contract → Set → ℕ → ℕ × ℕ
-quota-reason rows cs X k = (2, stopped-at rows cs X k)
+abbrev pub quota_reason : List Row → List Contract → Set → ℕ → ℕ × ℕ
+quota_reason rows cs X k = (2, stopped_at rows cs X k)

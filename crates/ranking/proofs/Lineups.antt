@@ -7,57 +7,57 @@ use Rattle.std.proofs.lemmas.List.Sorted.{sum_by-IsPermutation}
 use Rattle.std.proofs.lemmas.Bool.{and_parts, and_right, both_ways, cases_eq, or_cases, ltb-true, le-ltb, eqb-true, eq-eqb}
 use Rattle.std.specs.List.{ContainsAt as Has, AllByRecursion as All}
 use Rattle.rules.specs.declared.table.Contract.{Contract}
-use Rattle.rules.specs.Contents.{contractAt}
+use Rattle.rules.specs.Contents.{contract_at}
 use Rattle.moves.specs.Bags.{passing}
-use Rattle.moves.proofs.Bags.{total-same}
+use Rattle.moves.proofs.Bags.{total_same}
 use Rattle.matching.specs.Sets.{Set, rising}
-use Rattle.matching.proofs.Sets.{and-true}
+use Rattle.matching.proofs.Sets.{and_true}
 use Rattle.ranking.specs.Rank.{together, prefers, above}
 use Rattle.ranking.specs.Rows.{precedes, Ordered}
-use Rattle.ranking.proofs.Orderings.{prefers-irrefl, prefers-trans}
-use Rattle.ranking.proofs.Risings.{rising-sum}
+use Rattle.ranking.proofs.Orderings.{prefers_irrefl, prefers_trans}
+use Rattle.ranking.proofs.Risings.{rising_sum}
 
 -- ---- the numbers in rising order
 
-one-all : (n : ℕ) (X : Set) (b : Bool) → X n ≡ b → All (λ k. (X k ≡ true) × (k < suc n)) (cond b (n ∷ []) [])
-one-all n X true h = ((h, omega arith), tt)
-one-all n X false h = tt
+one_all : (n : ℕ) (X : Set) (b : Bool) → X n ≡ b → All (λ k. (X k ≡ true) × (k < suc n)) (cond b (n ∷ []) [])
+one_all n X true h = ((h, omega arith), tt)
+one_all n X false h = tt
 
-rising-all : (n : ℕ) (X : Set) → All (λ k. (X k ≡ true) × (k < n)) (rising n X)
-rising-all zero X = tt
-rising-all (suc n) X =
+rising_all : (n : ℕ) (X : Set) → All (λ k. (X k ≡ true) × (k < n)) (rising n X)
+rising_all zero X = tt
+rising_all (suc n) X =
     All-append (λ k. (X k ≡ true) × (k < suc n)) (rising n X) (cond (X n) (n ∷ []) [])
-    (All-weaker (λ k. (X k ≡ true) × (k < n)) (λ k. (X k ≡ true) × (k < suc n)) (λ k h. (h.0, omega (arith, h.1))) (rising n X) (rising-all n X))
-    (one-all n X (X n) refl)
+    (All-weaker (λ k. (X k ≡ true) × (k < n)) (λ k. (X k ≡ true) × (k < suc n)) (λ k h. (h.0, omega (arith, h.1))) (rising n X) (rising_all n X))
+    (one_all n X (X n) refl)
 
-rising-has : (n : ℕ) (X : Set) (k : ℕ) → k < n → X k ≡ true → Has (rising n X) k
-rising-has zero X k l x = absurd (omega arith)
-rising-has (suc n) X k l x = ⊎_elim
+rising_has : (n : ℕ) (X : Set) (k : ℕ) → k < n → X k ≡ true → Has (rising n X) k
+rising_has zero X k l x = absurd (omega arith)
+rising_has (suc n) X k l x = ⊎_elim
     (λ (e : k ≡ n). subst (Has (rising (suc n) X)) (sym e)
     (subst (λ b. Has (rising n X ++ cond b (n ∷ []) []) n) (sym x ∙ ap X e) (has_push (rising n X) n)))
-    (λ (ne : k ≡ n → ⊥). has_append_left (rising n X) (cond (X n) (n ∷ []) []) k (rising-has n X k (omega arith) x))
+    (λ (ne : k ≡ n → ⊥). has_append_left (rising n X) (cond (X n) (n ∷ []) []) k (rising_has n X k (omega arith) x))
     (cases_eq k n)
 
 -- ---- counts
 
-countBy-same : (p q : ℕ → Bool) (xs : List ℕ) → All (λ x. p x ≡ q x) xs → count_by p xs ≡ count_by q xs
-countBy-same p q [] h = refl
-countBy-same p q (x ∷ xs) h =
+count_by_same : (p q : ℕ → Bool) (xs : List ℕ) → All (λ x. p x ≡ q x) xs → count_by p xs ≡ count_by q xs
+count_by_same p q [] h = refl
+count_by_same p q (x ∷ xs) h =
     sum_by-cons (λ y. cond (p y) 1 0) x xs
-    ∙ (λ i. cond (h.0 i) 1 0 + countBy-same p q xs h.1 i)
+    ∙ (λ i. cond (h.0 i) 1 0 + count_by_same p q xs h.1 i)
     ∙ sym (sum_by-cons (λ y. cond (q y) 1 0) x xs)
 
-countBy-none : (p : ℕ → Bool) (xs : List ℕ) → All (λ x. p x ≡ false) xs → count_by p xs ≡ 0
-countBy-none p [] h = refl
-countBy-none p (x ∷ xs) h =
-    sum_by-cons (λ y. cond (p y) 1 0) x xs ∙ (λ i. cond (h.0 i) 1 0 + countBy-none p xs h.1 i)
+count_by_none : (p : ℕ → Bool) (xs : List ℕ) → All (λ x. p x ≡ false) xs → count_by p xs ≡ 0
+count_by_none p [] h = refl
+count_by_none p (x ∷ xs) h =
+    sum_by-cons (λ y. cond (p y) 1 0) x xs ∙ (λ i. cond (h.0 i) 1 0 + count_by_none p xs h.1 i)
 
-count-all : (xs : List ℕ) → count_by (λ _. true) xs ≡ length xs
-count-all [] = refl
-count-all (x ∷ xs) = omega (arith, sum_by-cons (λ (y : ℕ). 1) x xs, count-all xs)
+count_all : (xs : List ℕ) → count_by (λ _. true) xs ≡ length xs
+count_all [] = refl
+count_all (x ∷ xs) = omega (arith, sum_by-cons (λ (y : ℕ). 1) x xs, count_all xs)
 
-add-zero : (n : ℕ) → n + 0 ≡ n
-add-zero n = omega arith
+add_zero : (n : ℕ) → n + 0 ≡ n
+add_zero n = omega arith
 
 nested : (a b : Bool) → ◌≡◌ {A = ℕ} (cond a (cond b 1 0) 0) (cond (a && b) 1 0)
 nested true b = refl
@@ -65,43 +65,43 @@ nested false b = refl
 
 -- ---- who comes before whom
 
-pub precedes-itself : (rule : ℕ) (cs : List Contract) (k : ℕ) → precedes rule cs k k ≡ false
-precedes-itself rule cs k =
-    (λ i. le-ltb (contractAt cs k).dredger (contractAt cs k).dredger (omega arith) i
-    || (together cs k k && prefers-irrefl rule (contractAt cs k) k i))
+pub precedes_itself : (rule : ℕ) (cs : List Contract) (k : ℕ) → precedes rule cs k k ≡ false
+precedes_itself rule cs k =
+    (λ i. le-ltb (contract_at cs k).dredger (contract_at cs k).dredger (omega arith) i
+    || (together cs k k && prefers_irrefl rule (contract_at cs k) k i))
     ∙ and_right (together cs k k) false refl
 
 -- within one dredger it is the rule that says who comes first
-pub precedes-by-rule : (rule : ℕ) (cs : List Contract) (i j : ℕ) → precedes rule cs i j ≡ true → together cs i j ≡ true
-    → prefers rule (contractAt cs i) (contractAt cs j) i j ≡ true
-precedes-by-rule rule cs i j h t = ⊎_elim
+pub precedes_by_rule : (rule : ℕ) (cs : List Contract) (i j : ℕ) → precedes rule cs i j ≡ true → together cs i j ≡ true
+    → prefers rule (contract_at cs i) (contract_at cs j) i j ≡ true
+precedes_by_rule rule cs i j h t = ⊎_elim
     (λ l. absurd (omega (arith, ltb-true _ _ l, eqb-true _ _ t)))
     (λ e. (and_parts _ _ e).1)
-    (or_cases (ltb (contractAt cs i).dredger (contractAt cs j).dredger) _ h)
+    (or_cases (ltb (contract_at cs i).dredger (contract_at cs j).dredger) _ h)
 
-pub precedes-dredgers : (rule : ℕ) (cs : List Contract) (i j : ℕ) → precedes rule cs i j ≡ true → (contractAt cs i).dredger ≤ (contractAt cs j).dredger
-precedes-dredgers rule cs i j h = ⊎_elim
-    (λ l. omega (arith, ltb-true (contractAt cs i).dredger (contractAt cs j).dredger l))
-    (λ e. omega (arith, eqb-true (contractAt cs i).dredger (contractAt cs j).dredger (and_parts (together cs i j) _ e).0))
-    (or_cases (ltb (contractAt cs i).dredger (contractAt cs j).dredger) _ h)
+pub precedes_dredgers : (rule : ℕ) (cs : List Contract) (i j : ℕ) → precedes rule cs i j ≡ true → (contract_at cs i).dredger ≤ (contract_at cs j).dredger
+precedes_dredgers rule cs i j h = ⊎_elim
+    (λ l. omega (arith, ltb-true (contract_at cs i).dredger (contract_at cs j).dredger l))
+    (λ e. omega (arith, eqb-true (contract_at cs i).dredger (contract_at cs j).dredger (and_parts (together cs i j) _ e).0))
+    (or_cases (ltb (contract_at cs i).dredger (contract_at cs j).dredger) _ h)
 
-pub together-back : (cs : List Contract) (i j : ℕ) → together cs i j ≡ true → together cs j i ≡ true
-together-back cs i j h = eq-eqb _ _ (sym (eqb-true _ _ h))
+pub together_back : (cs : List Contract) (i j : ℕ) → together cs i j ≡ true → together cs j i ≡ true
+together_back cs i j h = eq-eqb _ _ (sym (eqb-true _ _ h))
 
 -- whoever precedes k and is of its dredger goes ahead of it, and no one else
 ahead_of : (rule : ℕ) (cs : List Contract) (q : ℕ → Bool) (j k : ℕ) → precedes rule cs j k ≡ true
-    → (q j && (together cs j k && prefers rule (contractAt cs j) (contractAt cs k) j k)) ≡ (q j && together cs j k)
-ahead_of rule cs q j k h = ap (λ b. q j && b) (go (together cs j k) _ (precedes-by-rule rule cs j k h))
+    → (q j && (together cs j k && prefers rule (contract_at cs j) (contract_at cs k) j k)) ≡ (q j && together cs j k)
+ahead_of rule cs q j k h = ap (λ b. q j && b) (go (together cs j k) _ (precedes_by_rule rule cs j k h))
   where
     go : (t p : Bool) → (t ≡ true → p ≡ true) → (t && p) ≡ t
     go true p f = f refl
     go false p f = refl
 
 not_behind : (rule : ℕ) (cs : List Contract) (q : ℕ → Bool) (j k : ℕ) → precedes rule cs k j ≡ true
-    → (q j && (together cs j k && prefers rule (contractAt cs j) (contractAt cs k) j k)) ≡ false
+    → (q j && (together cs j k && prefers rule (contract_at cs j) (contract_at cs k) j k)) ≡ false
 not_behind rule cs q j k h = and_right (q j) _ (go (together cs j k) _ (λ t p.
-    both_ways (prefers rule (contractAt cs j) (contractAt cs j) j j) (prefers-irrefl rule (contractAt cs j) j)
-    (prefers-trans rule (contractAt cs j) (contractAt cs k) (contractAt cs j) j k j p (precedes-by-rule rule cs k j h (together-back cs j k t)))))
+    both_ways (prefers rule (contract_at cs j) (contract_at cs j) j j) (prefers_irrefl rule (contract_at cs j) j)
+    (prefers_trans rule (contract_at cs j) (contract_at cs k) (contract_at cs j) j k j p (precedes_by_rule rule cs k j h (together_back cs j k t)))))
   where
     go : (t p : Bool) → (t ≡ true → p ≡ true → ⊥) → (t && p) ≡ false
     go true true f = absurd (f refl refl)
@@ -109,56 +109,56 @@ not_behind rule cs q j k h = and_right (q j) _ (go (together cs j k) _ (λ t p.
     go false p f = refl
 
 not_itself : (rule : ℕ) (cs : List Contract) (q : ℕ → Bool) (k : ℕ)
-    → (q k && (together cs k k && prefers rule (contractAt cs k) (contractAt cs k) k k)) ≡ false
-not_itself rule cs q k = and_right (q k) _ (and_right (together cs k k) _ (prefers-irrefl rule (contractAt cs k) k))
+    → (q k && (together cs k k && prefers rule (contract_at cs k) (contract_at cs k) k k)) ≡ false
+not_itself rule cs q k = and_right (q k) _ (and_right (together cs k k) _ (prefers_irrefl rule (contract_at cs k) k))
 
 module _ {rule : ℕ} {cs : List Contract} {X : Set} {ns : List ℕ} (o : Ordered rule cs X ns) where
-  pub lined-in : (i : ℕ) → i < length ns → (X (get_or ns i 0) ≡ true) × (get_or ns i 0 < length cs)
-  lined-in i l =
+  pub lined_in : (i : ℕ) → i < length ns → (X (get_or ns i 0) ≡ true) × (get_or ns i 0 < length cs)
+  lined_in i l =
       All-get_or (λ k. (X k ≡ true) × (k < length cs)) ns i 0 l
-      (all_shuffled (λ k. (X k ≡ true) × (k < length cs)) (rising (length cs) X) ns o.same (rising-all (length cs) X))
+      (all_shuffled (λ k. (X k ≡ true) × (k < length cs)) (rising (length cs) X) ns o.same (rising_all (length cs) X))
 
-  pub lined-all : (k : ℕ) → k < length cs → X k ≡ true → (i : ℕ) × (i < length ns) × (get_or ns i 0 ≡ k)
-  lined-all k l x =
-      let h = has_shuffled (rising (length cs) X) ns k o.same (rising-has (length cs) X k l x) in
+  pub lined_all : (k : ℕ) → k < length cs → X k ≡ true → (i : ℕ) × (i < length ns) × (get_or ns i 0 ≡ k)
+  lined_all k l x =
+      let h = has_shuffled (rising (length cs) X) ns k o.same (rising_has (length cs) X k l x) in
       (h.0, h.1, h.2 0)
 
-  pub lined-apart : (i j : ℕ) → i < j → j < length ns → get_or ns i 0 ≡ get_or ns j 0 → ⊥
-  lined-apart i j l m e = both_ways (precedes rule cs (get_or ns i 0) (get_or ns j 0))
-      (ap (λ k. precedes rule cs (get_or ns i 0) k) (sym e) ∙ precedes-itself rule cs (get_or ns i 0)) (o.sorted i j l m)
+  pub lined_apart : (i j : ℕ) → i < j → j < length ns → get_or ns i 0 ≡ get_or ns j 0 → ⊥
+  lined_apart i j l m e = both_ways (precedes rule cs (get_or ns i 0) (get_or ns j 0))
+      (ap (λ k. precedes rule cs (get_or ns i 0) k) (sym e) ∙ precedes_itself rule cs (get_or ns i 0)) (o.sorted i j l m)
 
-  pub lined-dredgers : (i j : ℕ) → i ≤ j → j < length ns → (contractAt cs (get_or ns i 0)).dredger ≤ (contractAt cs (get_or ns j 0)).dredger
-  lined-dredgers i j l m = ⊎_elim
-      (λ (e : i ≡ j). subst (λ n. (contractAt cs (get_or ns i 0)).dredger ≤ (contractAt cs (get_or ns n 0)).dredger) e (omega arith))
-      (λ (ne : i ≡ j → ⊥). precedes-dredgers rule cs (get_or ns i 0) (get_or ns j 0) (o.sorted i j (omega arith) m))
+  pub lined_dredgers : (i j : ℕ) → i ≤ j → j < length ns → (contract_at cs (get_or ns i 0)).dredger ≤ (contract_at cs (get_or ns j 0)).dredger
+  lined_dredgers i j l m = ⊎_elim
+      (λ (e : i ≡ j). subst (λ n. (contract_at cs (get_or ns i 0)).dredger ≤ (contract_at cs (get_or ns n 0)).dredger) e (omega arith))
+      (λ (ne : i ≡ j → ⊥). precedes_dredgers rule cs (get_or ns i 0) (get_or ns j 0) (o.sorted i j (omega arith) m))
       (cases_eq i j)
 
-  pub lined-count : (p : ℕ → Bool) → passing (length cs) (λ j. X j && p j) ≡ count_by p ns
-  lined-count p =
-      total-same (length cs) (λ j. cond (X j && p j) 1 0) (λ j. cond (X j) (cond (p j) 1 0) 0) (λ j l. sym (nested (X j) (p j)))
-      ∙ sym (rising-sum (λ j. cond (p j) 1 0) (length cs) X)
+  pub lined_count : (p : ℕ → Bool) → passing (length cs) (λ j. X j && p j) ≡ count_by p ns
+  lined_count p =
+      total_same (length cs) (λ j. cond (X j && p j) 1 0) (λ j. cond (X j) (cond (p j) 1 0) 0) (λ j l. sym (nested (X j) (p j)))
+      ∙ sym (rising_sum (λ j. cond (p j) 1 0) (length cs) X)
       ∙ sym (sum_by-IsPermutation (λ j. cond (p j) 1 0) (rising (length cs) X) ns o.same)
 
-  pub lined-length : passing (length cs) X ≡ length ns
-  lined-length =
-      total-same (length cs) (λ j. cond (X j) 1 0) (λ j. cond (X j && true) 1 0) (λ j l. ap (λ b. cond b 1 0) (sym (and-true (X j))))
-      ∙ lined-count (λ _. true) ∙ count-all ns
+  pub lined_length : passing (length cs) X ≡ length ns
+  lined_length =
+      total_same (length cs) (λ j. cond (X j) 1 0) (λ j. cond (X j && true) 1 0) (λ j l. ap (λ b. cond b 1 0) (sym (and_true (X j))))
+      ∙ lined_count (λ _. true) ∙ count_all ns
 
   -- as many of X go ahead of the contract at a place, and pass a test, as stand before that place, are of its dredger and pass the test
-  pub lined-before : (i : ℕ) (q : ℕ → Bool) → i < length ns
-      → passing (length cs) (λ j. X j && (q j && (together cs j (get_or ns i 0) && prefers rule (contractAt cs j) (contractAt cs (get_or ns i 0)) j (get_or ns i 0))))
+  pub lined_before : (i : ℕ) (q : ℕ → Bool) → i < length ns
+      → passing (length cs) (λ j. X j && (q j && (together cs j (get_or ns i 0) && prefers rule (contract_at cs j) (contract_at cs (get_or ns i 0)) j (get_or ns i 0))))
       ≡ count_by (λ j. q j && together cs j (get_or ns i 0)) (take i ns)
-  lined-before i q l =
-      lined-count p
+  lined_before i q l =
+      lined_count p
       ∙ sym (sum_by-take-drop (λ j. cond (p j) 1 0) ns i)
-      ∙ (λ t. countBy-same p (λ j. q j && together cs j k) (take i ns) front t + countBy-none p (drop i ns) back t)
-      ∙ add-zero (count_by (λ j. q j && together cs j k) (take i ns))
+      ∙ (λ t. count_by_same p (λ j. q j && together cs j k) (take i ns) front t + count_by_none p (drop i ns) back t)
+      ∙ add_zero (count_by (λ j. q j && together cs j k) (take i ns))
     where
       k : ℕ
       k = get_or ns i 0
 
       p : ℕ → Bool
-      p j = q j && (together cs j k && prefers rule (contractAt cs j) (contractAt cs k) j k)
+      p j = q j && (together cs j k && prefers rule (contract_at cs j) (contract_at cs k) j k)
 
       front : All (λ j. p j ≡ (q j && together cs j k)) (take i ns)
       front = All-from_get_or (λ j. p j ≡ (q j && together cs j k)) (take i ns) 0 (λ a m.
@@ -178,4 +178,4 @@ module _ {rule : ℕ} {cs : List Contract} {X : Set} {ns : List ℕ} (o : Ordere
 -- the same by rank
 pub lined-ahead : {cs : List Contract} {X : Set} {ns : List ℕ} (o : Ordered 0 cs X ns) (i : ℕ) (q : ℕ → Bool) → i < length ns
     → passing (length cs) (λ j. X j && (q j && above cs j (get_or ns i 0))) ≡ count_by (λ j. q j && together cs j (get_or ns i 0)) (take i ns)
-lined-ahead o i q l = lined-before o i q l
+lined-ahead o i q l = lined_before o i q l

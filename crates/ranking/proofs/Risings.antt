@@ -11,21 +11,21 @@ use Rattle.matching.specs.Sets.{Set, rising}
 
 -- ---- rising
 
-pub rising-in : (n : ℕ) (X : Set) → X n ≡ true → rising (n + 1) X ≡ rising n X ++ n ∷ []
-rising-in n X h = rw add-one (ap (λ b. rising n X ++ cond b (n ∷ []) []) h)
+pub rising_in : (n : ℕ) (X : Set) → X n ≡ true → rising (n + 1) X ≡ rising n X ++ n ∷ []
+rising_in n X h = rw add-one (ap (λ b. rising n X ++ cond b (n ∷ []) []) h)
 
-pub rising-out : (n : ℕ) (X : Set) → X n ≡ false → rising (n + 1) X ≡ rising n X
-rising-out n X h = rw add-one (ap (λ b. rising n X ++ cond b (n ∷ []) []) h ∙ append-nil (rising n X))
+pub rising_out : (n : ℕ) (X : Set) → X n ≡ false → rising (n + 1) X ≡ rising n X
+rising_out n X h = rw add-one (ap (λ b. rising n X ++ cond b (n ∷ []) []) h ∙ append-nil (rising n X))
 
-one-sum : (f : ℕ → ℕ) (b : Bool) (n : ℕ) → sum_by f (cond b (n ∷ []) []) ≡ cond b (f n) 0
-one-sum f true n = omega arith
-one-sum f false n = refl
+one_sum : (f : ℕ → ℕ) (b : Bool) (n : ℕ) → sum_by f (cond b (n ∷ []) []) ≡ cond b (f n) 0
+one_sum f true n = omega arith
+one_sum f false n = refl
 
-pub rising-sum : (f : ℕ → ℕ) (n : ℕ) (X : Set) → sum_by f (rising n X) ≡ total n (λ j. cond (X j) (f j) 0)
-rising-sum f zero X = refl
-rising-sum f (suc n) X =
+pub rising_sum : (f : ℕ → ℕ) (n : ℕ) (X : Set) → sum_by f (rising n X) ≡ total n (λ j. cond (X j) (f j) 0)
+rising_sum f zero X = refl
+rising_sum f (suc n) X =
     sum_by-append f (rising n X) (cond (X n) (n ∷ []) [])
-    ∙ (λ i. rising-sum f n X i + one-sum f (X n) n i)
+    ∙ (λ i. rising_sum f n X i + one_sum f (X n) n i)
 
 -- each number stands there at most once
 abbrev pub is : ℕ → ℕ → ℕ
@@ -37,28 +37,28 @@ is_zero k x h = ap (λ b. cond b 1 0) (ne_eqb x k h)
 is_one : (k x : ℕ) → x ≡ k → is k x ≡ 1
 is_one k x h = ap (λ b. cond b 1 0) (eq-eqb x k h)
 
-under-cond : (b : Bool) (x y : ℕ) → x ≤ y → cond b x 0 ≤ y
-under-cond true x y h = h
-under-cond false x y h = omega arith
+under_cond : (b : Bool) (x y : ℕ) → x ≤ y → cond b x 0 ≤ y
+under_cond true x y h = h
+under_cond false x y h = omega arith
 
-none-past : (k n : ℕ) (X : Set) → n ≤ k → total n (λ j. cond (X j) (is k j) 0) ≡ 0
-none-past k zero X h = refl
-none-past k (suc n) X h =
-    let a = none-past k n X (omega arith) in
-    let b = under-cond (X n) (is k n) 0 (omega (arith, is_zero k n (λ e. omega arith))) in
+none_past : (k n : ℕ) (X : Set) → n ≤ k → total n (λ j. cond (X j) (is k j) 0) ≡ 0
+none_past k zero X h = refl
+none_past k (suc n) X h =
+    let a = none_past k n X (omega arith) in
+    let b = under_cond (X n) (is k n) 0 (omega (arith, is_zero k n (λ e. omega arith))) in
     omega arith
 
-once-below : (k n : ℕ) (X : Set) → total n (λ j. cond (X j) (is k j) 0) ≤ 1
-once-below k zero X = omega arith
-once-below k (suc n) X = ⊎_elim
-    (λ (e : n ≡ k). let a = none-past k n X (omega arith) in
-    let b = under-cond (X n) (is k n) 1 (omega (arith, is_one k n e)) in omega arith)
-    (λ (e : n ≡ k → ⊥). let a = once-below k n X in
-    let b = under-cond (X n) (is k n) 0 (omega (arith, is_zero k n e)) in omega arith)
+once_below : (k n : ℕ) (X : Set) → total n (λ j. cond (X j) (is k j) 0) ≤ 1
+once_below k zero X = omega arith
+once_below k (suc n) X = ⊎_elim
+    (λ (e : n ≡ k). let a = none_past k n X (omega arith) in
+    let b = under_cond (X n) (is k n) 1 (omega (arith, is_one k n e)) in omega arith)
+    (λ (e : n ≡ k → ⊥). let a = once_below k n X in
+    let b = under_cond (X n) (is k n) 0 (omega (arith, is_zero k n e)) in omega arith)
     (cases_eq n k)
 
 pub once : (k n : ℕ) (X : Set) (ns : List ℕ) → IsPermutation (rising n X) ns → sum_by (is k) ns ≤ 1
-once k n X ns h = omega (arith, sum_by-IsPermutation (is k) (rising n X) ns h, rising-sum (is k) n X, once-below k n X)
+once k n X ns h = omega (arith, sum_by-IsPermutation (is k) (rising n X) ns h, rising_sum (is k) n X, once_below k n X)
 
 pub twice : (k : ℕ) (ns : List ℕ) (i j : ℕ) → i < j → j < length ns → get_or ns i 0 ≡ k → get_or ns j 0 ≡ k → 2 ≤ sum_by (is k) ns
 twice k [] i j l m p q = absurd (omega arith)
@@ -71,25 +71,25 @@ twice k (n ∷ ns) (suc i) (suc j) l m p q =
 -- ---- a change of order under a map
 
 module _ {X Y : Type 0} (f : X → Y) where
-  pub getD-mapped : (xs : List X) (i : ℕ) (d : X) → get_or (map f xs) i (f d) ≡ f (get_or xs i d)
-  getD-mapped [] i d = refl
-  getD-mapped (x ∷ xs) zero d = refl
-  getD-mapped (x ∷ xs) (suc i) d = getD-mapped xs i d
+  pub get_or_mapped : (xs : List X) (i : ℕ) (d : X) → get_or (map f xs) i (f d) ≡ f (get_or xs i d)
+  get_or_mapped [] i d = refl
+  get_or_mapped (x ∷ xs) zero d = refl
+  get_or_mapped (x ∷ xs) (suc i) d = get_or_mapped xs i d
 
-  map-exchanged : (xs : List X) (i j : ℕ) → map f (swap xs i j) ≡ swap (map f xs) i j
-  map-exchanged [] i j = refl
-  map-exchanged (d ∷ xs) i j =
+  map_exchanged : (xs : List X) (i j : ℕ) → map f (swap xs i j) ≡ swap (map f xs) i j
+  map_exchanged [] i j = refl
+  map_exchanged (d ∷ xs) i j =
       map-set f (set (d ∷ xs) i (get_or (d ∷ xs) j d)) j (get_or (d ∷ xs) i d)
       ∙ ap (λ z. set z j (f (get_or (d ∷ xs) i d))) (map-set f (d ∷ xs) i (get_or (d ∷ xs) j d))
-      ∙ (λ t. set (set (map f (d ∷ xs)) i (sym (getD-mapped (d ∷ xs) j d) t)) j (sym (getD-mapped (d ∷ xs) i d) t))
+      ∙ (λ t. set (set (map f (d ∷ xs)) i (sym (get_or_mapped (d ∷ xs) j d) t)) j (sym (get_or_mapped (d ∷ xs) i d) t))
 
-  map-moved : (xs : List X) (ps : List (ℕ × ℕ)) → map f (apply_swaps xs ps) ≡ apply_swaps (map f xs) ps
-  map-moved xs [] = refl
-  map-moved xs (p ∷ ps) = map-exchanged (apply_swaps xs ps) p.0 p.1 ∙ ap (λ z. swap z p.0 p.1) (map-moved xs ps)
+  map_moved : (xs : List X) (ps : List (ℕ × ℕ)) → map f (apply_swaps xs ps) ≡ apply_swaps (map f xs) ps
+  map_moved xs [] = refl
+  map_moved xs (p ∷ ps) = map_exchanged (apply_swaps xs ps) p.0 p.1 ∙ ap (λ z. swap z p.0 p.1) (map_moved xs ps)
 
-  pub shuffled-back : (xs : List X) (ys : List Y) → IsPermutation (map f xs) ys → (zs : List X) × (ys ≡ map f zs) × IsPermutation xs zs
-  shuffled-back xs ys h = (
+  pub shuffled_back : (xs : List X) (ys : List Y) → IsPermutation (map f xs) ys → (zs : List X) × (ys ≡ map f zs) × IsPermutation xs zs
+  shuffled_back xs ys h = (
     apply_swaps xs h.moves,
-    h.is ∙ sym (map-moved xs h.moves),
+    h.is ∙ sym (map_moved xs h.moves),
     record { moves = h.moves; below = subst (λ n. SwapsInRange n h.moves) (length-map xs f) h.below; is = refl },
   )

@@ -4,7 +4,7 @@ use Rattle.std.specs.declared.cmp.Ordering.{Ordering}
 use Rattle.std.specs.Ordering.{is_lt, ordering_then, nat_cmp}
 use Rattle.std.specs.List.Sorted.{IsPermutation}
 use Rattle.rules.specs.declared.table.Contract.{Contract}
-use Rattle.rules.specs.Contents.{contractAt}
+use Rattle.rules.specs.Contents.{contract_at}
 use Rattle.matching.specs.Sets.{rising}
 use Rattle.board.specs.Marks.{member}
 use Rattle.ranking.specs.declared.key.Key.{Key}
@@ -32,7 +32,7 @@ key_of rule a k = record {
 }
 
 abbrev pub key_at : ℕ → List Contract → ℕ → Key
-key_at rule cs k = key_of rule (contractAt cs k) k
+key_at rule cs k = key_of rule (contract_at cs k) k
 
 abbrev pub numbers : List Key → List ℕ
 numbers ks = map (λ k. k.number) ks

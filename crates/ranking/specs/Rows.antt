@@ -2,17 +2,17 @@
 use Rattle.std.specs.Prelude.{◌≡◌, ℕ, ◌<◌, ◌≤◌, Bool, true, ◌&&◌, ◌||◌, List, length, take, Ok, Err, Result, nat_lt, slice_index}
 use Rattle.std.specs.List.Sorted.{IsPermutation}
 use Rattle.rules.specs.declared.table.Contract.{Contract}
-use Rattle.rules.specs.Contents.{contractAt}
+use Rattle.rules.specs.Contents.{contract_at}
 use Rattle.matching.specs.Sets.{Set, rising}
 use Rattle.board.specs.declared.unfit.Unfit.{Unfit}
 use Rattle.board.specs.Marks.{member}
-use Rattle.board.specs.Refusals.{number, asks-marks}
+use Rattle.board.specs.Refusals.{number, asks_marks}
 use Rattle.ranking.specs.Rank.{together, prefers}
 
 -- contract i comes before contract j in the row
 abbrev pub precedes : ℕ → List Contract → ℕ → ℕ → Bool
 precedes rule cs i j =
-    nat_lt (contractAt cs i).dredger (contractAt cs j).dredger || (together cs i j && prefers rule (contractAt cs i) (contractAt cs j) i j)
+    nat_lt (contract_at cs i).dredger (contract_at cs j).dredger || (together cs i j && prefers rule (contract_at cs i) (contract_at cs j) i j)
 
 -- just the contracts of X, each once, in this order
 pub record Ordered (rule : ℕ) (cs : List Contract) (X : Set) (ns : List ℕ) : Type 0 where
@@ -28,4 +28,4 @@ pub record Front (rule : ℕ) (cs : List Contract) (X : Set) (row : List ℕ) (m
 -- `line_up`: how many stand in the row, or 31, and the row stays
 abbrev pub Lined : ℕ → List Contract → List ℕ → List ℕ → List ℕ → Result ℕ Unfit → Type 0
 Lined rule cs marks row row' (Ok m) = (length marks ≡ length cs) × Front rule cs (member marks) row' m
-Lined rule cs marks row row' (Err e) = (number e ≡ asks-marks (length cs) (length marks)) × (row' ≡ row)
+Lined rule cs marks row row' (Err e) = (number e ≡ asks_marks (length cs) (length marks)) × (row' ≡ row)

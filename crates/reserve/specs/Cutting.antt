@@ -7,25 +7,25 @@ use Rattle.std.proofs.lemmas.List.Sums.{sum_by_more, count_by-le-length}
 use Rattle.std.proofs.lemmas.Bool.{and_parts, and_from, and_left, and_right, or_left, or_right, or_from, or_cases, cases_Bool, cases_eq, cases_lt, both_ways, eq-eqb, ne_eqb, eqb-true, cond-true, cond-false, lt-ltb, le-ltb, ltb-true, ltb-false, not_from_true, not_from_false}
 use Rattle.moves.specs.Bags.{passing}
 use Rattle.rules.specs.declared.table.Contract.{Contract}
-use Rattle.rules.specs.Contents.{contractAt}
+use Rattle.rules.specs.Contents.{contract_at}
 use Rattle.matching.specs.Sets.{Set, common, Within}
 use Rattle.matching.specs.Choices.{Strict, Lawful, ahead, first}
-use Rattle.matching.proofs.Sets.{same_bool, outside, or-false, or-true}
-use Rattle.matching.proofs.Sums.{passing-same}
+use Rattle.matching.proofs.Sets.{same_bool, outside, or_false, or_true}
+use Rattle.matching.proofs.Sums.{passing_same}
 use Rattle.matching.proofs.Firsts.{first-lawful}
 use Rattle.board.specs.Marks.{member}
 use Rattle.ranking.specs.Rank.{above, together}
 use Rattle.ranking.specs.Rows.{Ordered}
-use Rattle.ranking.proofs.Orderings.{above-irrefl, above-trans}
-use Rattle.ranking.proofs.Lineups.{lined-in, lined-all, lined-ahead}
-use Rattle.reserve.specs.Reserves.{flagged, reserve, reserved, entitled, entitledOf, left-or-out}
-use Rattle.reserve.specs.Reserving.{getD-zeros}
+use Rattle.ranking.proofs.Orderings.{above_irrefl, above_trans}
+use Rattle.ranking.proofs.Lineups.{lined_in, lined_all, lined-ahead}
+use Rattle.reserve.specs.Reserves.{flagged, reserve, reserved, entitled, entitled_of, left_or_out}
+use Rattle.reserve.specs.Reserving.{get_or-zeros}
 
 -- the reserve part is a lawful choice
 pub reserved-lawful : (places : List ℕ) (cs : List Contract) → Lawful (length cs) (reserved places cs)
 reserved-lawful places cs = first-lawful (length cs) (flagged cs) (above cs) (reserve places cs) (record {
-  irreflexive = above-irrefl cs;
-  transitive = above-trans cs;
+  irreflexive = above_irrefl cs;
+  transitive = above_trans cs;
   bound = λ i j e. ap (λ d. slice_index places d) (eqb-true _ _ (and_parts (together cs i j) _ e).0);
 })
 
@@ -38,22 +38,22 @@ or_swap : (a b c : Bool) → (a || (b || c)) ≡ ((a || b) || c)
 or_swap true b c = refl
 or_swap false b c = refl
 
-among-push : (xs : List ℕ) (x k : ℕ) → among (xs ++ x ∷ []) k ≡ (among xs k || k == x)
-among-push [] x k = or-false (k == x)
-among-push (y ∷ ys) x k = ap (λ b. (k == y) || b) (among-push ys x k) ∙ or_swap (k == y) (among ys k) (k == x)
+among_push : (xs : List ℕ) (x k : ℕ) → among (xs ++ x ∷ []) k ≡ (among xs k || k == x)
+among_push [] x k = or_false (k == x)
+among_push (y ∷ ys) x k = ap (λ b. (k == y) || b) (among_push ys x k) ∙ or_swap (k == y) (among ys k) (k == x)
 
-among-more : (xs : List ℕ) (i k : ℕ) → i < length xs → among (take (i + 1) xs) k ≡ (among (take i xs) k || k == slice_index xs i)
-among-more xs i k l = ap (λ ys. among ys k) (take_more xs i 0 l) ∙ among-push (take i xs) (slice_index xs i) k
+among_more : (xs : List ℕ) (i k : ℕ) → i < length xs → among (take (i + 1) xs) k ≡ (among (take i xs) k || k == slice_index xs i)
+among_more xs i k l = ap (λ ys. among ys k) (take_more xs i 0 l) ∙ among_push (take i xs) (slice_index xs i) k
 
-among-at : (xs : List ℕ) (i k : ℕ) → i < length xs → slice_index xs i ≡ k → among xs k ≡ true
-among-at [] i k l e = absurd (omega arith)
-among-at (x ∷ xs) zero k l e = or_left _ _ (eq-eqb k x (sym e))
-among-at (x ∷ xs) (suc i) k l e = or_right _ _ (among-at xs i k (omega arith) e)
+among_at : (xs : List ℕ) (i k : ℕ) → i < length xs → slice_index xs i ≡ k → among xs k ≡ true
+among_at [] i k l e = absurd (omega arith)
+among_at (x ∷ xs) zero k l e = or_left _ _ (eq-eqb k x (sym e))
+among_at (x ∷ xs) (suc i) k l e = or_right _ _ (among_at xs i k (omega arith) e)
 
-among-place : (xs : List ℕ) (k : ℕ) → among xs k ≡ true → (i : ℕ) × (i < length xs) × (slice_index xs i ≡ k)
-among-place [] k h = absurd (both_ways false refl h)
-among-place (x ∷ xs) k h = ⊎_elim (λ e. (0, omega arith, sym (eqb-true k x e)))
-    (λ e. let r = among-place xs k e in let l = r.1 in (suc r.0, omega arith, r.2)) (or_cases (k == x) (among xs k) h)
+among_place : (xs : List ℕ) (k : ℕ) → among xs k ≡ true → (i : ℕ) × (i < length xs) × (slice_index xs i ≡ k)
+among_place [] k h = absurd (both_ways false refl h)
+among_place (x ∷ xs) k h = ⊎_elim (λ e. (0, omega arith, sym (eqb-true k x e)))
+    (λ e. let r = among_place xs k e in let l = r.1 in (suc r.0, omega arith, r.2)) (or_cases (k == x) (among xs k) h)
 
 abbrev all : Set
 all j = true
@@ -64,91 +64,91 @@ free places cs E k = nat_lt (ahead (length cs) all (above cs) E k) (reserve plac
 
 -- after i contracts of the row: how many were seen at each dredger, and which marks are left
 pub record Cut (places : List ℕ) (cs : List Contract) (E : Set) (ns entry seen taken : List ℕ) (i : ℕ) : Type 0 where
-  pub seen-is : (v : ℕ) → slice_index seen v ≡ count_by (λ j. nat_eq (contractAt cs j).dredger v) (take i ns)
+  pub seen_is : (v : ℕ) → slice_index seen v ≡ count_by (λ j. nat_eq (contract_at cs j).dredger v) (take i ns)
   pub taken_is : (k : ℕ) → slice_index taken k ≡ cond (among (take i ns) k && not (free places cs E k)) 0 (slice_index entry k)
 
 -- what the next contract adds to those seen, and what becomes of its mark
 abbrev Sees : List Contract → List ℕ → List ℕ → ℕ → Type 0
-Sees cs seen seen' k = (v : ℕ) → slice_index seen' v ≡ slice_index seen v + cond ((contractAt cs k).dredger == v) 1 0
+Sees cs seen seen' k = (v : ℕ) → slice_index seen' v ≡ slice_index seen v + cond ((contract_at cs k).dredger == v) 1 0
 
 abbrev Takes : List ℕ → List Contract → List ℕ → List ℕ → List ℕ → ℕ → Type 0
 Takes places cs seen taken taken' k =
-    (j : ℕ) → slice_index taken' j ≡ left-or-out (nat_lt (slice_index seen (contractAt cs k).dredger) (reserve places cs k)) (j == k) (slice_index taken j)
+    (j : ℕ) → slice_index taken' j ≡ left_or_out (nat_lt (slice_index seen (contract_at cs k).dredger) (reserve places cs k)) (j == k) (slice_index taken j)
 
 module _ (places : List ℕ) (cs : List Contract) (E : Set) (ns : List ℕ) (o : Ordered 0 cs E ns) where
   abbrev room : ℕ → Bool
   room k = free places cs E k
 
   -- the row has just the contracts of the list
-  among-is : Within (length cs) E → (k : ℕ) → among ns k ≡ E k
-  among-is w k = same_bool _ _
-      (λ h. let r = among-place ns k h in let P : ℕ → Type 0 = λ j. E j ≡ true in subst P r.2 (lined-in o r.0 r.1).0)
-      (λ h. let r = lined-all o k (w k h) h in among-at ns r.0 k r.1 r.2)
+  among_is : Within (length cs) E → (k : ℕ) → among ns k ≡ E k
+  among_is w k = same_bool _ _
+      (λ h. let r = among_place ns k h in let P : ℕ → Type 0 = λ j. E j ≡ true in subst P r.2 (lined_in o r.0 r.1).0)
+      (λ h. let r = lined_all o k (w k h) h in among_at ns r.0 k r.1 r.2)
 
-  pub cut-none : (entry seen : List ℕ) → ((v : ℕ) → slice_index seen v ≡ 0) → Cut places cs E ns entry seen entry 0
-  cut-none entry seen z = record { seen-is = z; taken_is = λ k. refl }
+  pub cut_none : (entry seen : List ℕ) → ((v : ℕ) → slice_index seen v ≡ 0) → Cut places cs E ns entry seen entry 0
+  cut_none entry seen z = record { seen_is = z; taken_is = λ k. refl }
 
   -- what was seen at the dredger of the next contract is what ranks above it
-  seen-room : (entry seen taken : List ℕ) (i : ℕ) → i < length ns → Cut places cs E ns entry seen taken i
-      → nat_lt (slice_index seen (contractAt cs (slice_index ns i)).dredger) (reserve places cs (slice_index ns i)) ≡ room (slice_index ns i)
-  seen-room entry seen taken i l h =
-      ap (λ x. ltb x (reserve places cs (slice_index ns i))) (h.seen-is (contractAt cs (slice_index ns i)).dredger ∙ sym (lined-ahead o i all l))
+  seen_room : (entry seen taken : List ℕ) (i : ℕ) → i < length ns → Cut places cs E ns entry seen taken i
+      → nat_lt (slice_index seen (contract_at cs (slice_index ns i)).dredger) (reserve places cs (slice_index ns i)) ≡ room (slice_index ns i)
+  seen_room entry seen taken i l h =
+      ap (λ x. ltb x (reserve places cs (slice_index ns i))) (h.seen_is (contract_at cs (slice_index ns i)).dredger ∙ sym (lined-ahead o i all l))
 
-  mark-here : (r a : Bool) (x y : ℕ) → x ≡ cond (a && not r) 0 y → cond r x 0 ≡ cond (not r) 0 y
-  mark-here true true x y e = e
-  mark-here true false x y e = e
-  mark-here false a x y e = refl
+  mark_here : (r a : Bool) (x y : ℕ) → x ≡ cond (a && not r) 0 y → cond r x 0 ≡ cond (not r) 0 y
+  mark_here true true x y e = e
+  mark_here true false x y e = e
+  mark_here false a x y e = refl
 
   cut_at : (entry seen taken seen' taken' : List ℕ) (i : ℕ) → i < length ns → Cut places cs E ns entry seen taken i
       → Sees cs seen seen' (slice_index ns i) → Takes places cs seen taken taken' (slice_index ns i)
       → Cut places cs E ns entry seen' taken' (i + 1)
   cut_at entry seen taken seen' taken' i l h s t = record {
-    seen-is = λ v. s v ∙ ap (λ x. x + cond ((contractAt cs (slice_index ns i)).dredger == v) 1 0) (h.seen-is v)
-        ∙ sym (sum_by_more (λ j. cond ((contractAt cs j).dredger == v) 1 0) ns i 0 l);
-    taken_is = λ k. t k ∙ ap (λ b. left-or-out b (k == slice_index ns i) (slice_index taken k)) (seen-room entry seen taken i l h)
+    seen_is = λ v. s v ∙ ap (λ x. x + cond ((contract_at cs (slice_index ns i)).dredger == v) 1 0) (h.seen_is v)
+        ∙ sym (sum_by_more (λ j. cond ((contract_at cs j).dredger == v) 1 0) ns i 0 l);
+    taken_is = λ k. t k ∙ ap (λ b. left_or_out b (k == slice_index ns i) (slice_index taken k)) (seen_room entry seen taken i l h)
         ∙ ⊎_elim (here k) (other k) (cases_eq k (slice_index ns i))
-        ∙ sym (ap (λ b. cond (b && not (room k)) 0 (slice_index entry k)) (among-more ns i k l));
+        ∙ sym (ap (λ b. cond (b && not (room k)) 0 (slice_index entry k)) (among_more ns i k l));
   }
     where
       here : (k : ℕ) → k ≡ slice_index ns i
-          → left-or-out (room (slice_index ns i)) (k == slice_index ns i) (slice_index taken k) ≡ cond ((among (take i ns) k || k == slice_index ns i) && not (room k)) 0 (slice_index entry k)
+          → left_or_out (room (slice_index ns i)) (k == slice_index ns i) (slice_index taken k) ≡ cond ((among (take i ns) k || k == slice_index ns i) && not (room k)) 0 (slice_index entry k)
       here k e =
           cond-true (k == slice_index ns i) _ _ (eq-eqb _ _ e)
           ∙ ap (λ j. cond (room j) (slice_index taken k) 0) (sym e)
-          ∙ mark-here (room k) (among (take i ns) k) (slice_index taken k) (slice_index entry k) (h.taken_is k)
+          ∙ mark_here (room k) (among (take i ns) k) (slice_index taken k) (slice_index entry k) (h.taken_is k)
           ∙ sym (ap (λ b. cond (b && not (room k)) 0 (slice_index entry k)) (or_right (among (take i ns) k) _ (eq-eqb _ _ e)))
 
       other : (k : ℕ) → (k ≢ slice_index ns i)
-          → left-or-out (room (slice_index ns i)) (k == slice_index ns i) (slice_index taken k) ≡ cond ((among (take i ns) k || k == slice_index ns i) && not (room k)) 0 (slice_index entry k)
+          → left_or_out (room (slice_index ns i)) (k == slice_index ns i) (slice_index taken k) ≡ cond ((among (take i ns) k || k == slice_index ns i) && not (room k)) 0 (slice_index entry k)
       other k ne =
           cond-false (k == slice_index ns i) _ _ (ne_eqb _ _ ne)
           ∙ h.taken_is k
           ∙ sym (ap (λ b. cond ((among (take i ns) k || b) && not (room k)) 0 (slice_index entry k)) (ne_eqb _ _ ne)
-          ∙ ap (λ b. cond (b && not (room k)) 0 (slice_index entry k)) (or-false (among (take i ns) k)))
+          ∙ ap (λ b. cond (b && not (room k)) 0 (slice_index entry k)) (or_false (among (take i ns) k)))
 
-  pub cut-more : (entry seen taken seen' taken' : List ℕ) (i k : ℕ) → i < length ns → slice_index ns i ≡ k → Cut places cs E ns entry seen taken i
+  pub cut_more : (entry seen taken seen' taken' : List ℕ) (i k : ℕ) → i < length ns → slice_index ns i ≡ k → Cut places cs E ns entry seen taken i
       → Sees cs seen seen' k → Takes places cs seen taken taken' k → Cut places cs E ns entry seen' taken' (i + 1)
-  cut-more entry seen taken seen' taken' i k l e h =
+  cut_more entry seen taken seen' taken' i k l e h =
       let P : ℕ → Type 0 = λ x. Sees cs seen seen' x → Takes places cs seen taken taken' x → Cut places cs E ns entry seen' taken' (i + 1) in
       subst P e (cut_at entry seen taken seen' taken' i l h)
 
-  mark-end : (e r : Bool) (x y : ℕ) → not (y == 0) ≡ e → x ≡ cond (e && not r) 0 y → not (x == 0) ≡ (e && (true && r))
-  mark-end true true x y m q = ap (λ z. not (z == 0)) q ∙ m
-  mark-end true false x y m q = ap (λ z. not (z == 0)) q
-  mark-end false r x y m q = ap (λ z. not (z == 0)) q ∙ m
+  mark_end : (e r : Bool) (x y : ℕ) → not (y == 0) ≡ e → x ≡ cond (e && not r) 0 y → not (x == 0) ≡ (e && (true && r))
+  mark_end true true x y m q = ap (λ z. not (z == 0)) q ∙ m
+  mark_end true false x y m q = ap (λ z. not (z == 0)) q
+  mark_end false r x y m q = ap (λ z. not (z == 0)) q ∙ m
 
   pub cut_all : (entry seen taken : List ℕ) (i : ℕ) → length ns ≤ i → Within (length cs) E → member entry ≡ E → Cut places cs E ns entry seen taken i
       → member taken ≡ first (length cs) all (above cs) (reserve places cs) E
   cut_all entry seen taken i l w m h = fun_ext λ k.
-      mark-end (E k) (room k) (slice_index taken k) (slice_index entry k) (ap (λ X. X k) m)
-      (h.taken_is k ∙ ap (λ b. cond (b && not (room k)) 0 (slice_index entry k)) (ap (λ xs. among xs k) (take_all i ns l) ∙ among-is w k))
+      mark_end (E k) (room k) (slice_index taken k) (slice_index entry k) (ap (λ X. X k) m)
+      (h.taken_is k ∙ ap (λ b. cond (b && not (room k)) 0 (slice_index entry k)) (ap (λ xs. among xs k) (take_all i ns l) ∙ among_is w k))
 
   -- nobody is seen more often than the row is long
   pub seen_few : (entry seen taken : List ℕ) (i v m : ℕ) → length ns ≤ m → Cut places cs E ns entry seen taken i → slice_index seen v ≤ m
   seen_few entry seen taken i v m l h =
-      let a = count_by-le-length (λ j. nat_eq (contractAt cs j).dredger v) (take i ns) in
+      let a = count_by-le-length (λ j. nat_eq (contract_at cs j).dredger v) (take i ns) in
       let b : length (take i ns) ≤ length ns = length-take-le' i ns in
-      let c = h.seen-is v in
+      let c = h.seen_is v in
       omega arith
     where
       length-take-le' : (i : ℕ) (xs : List ℕ) → length (take i xs) ≤ length xs
@@ -157,18 +157,18 @@ module _ (places : List ℕ) (cs : List Contract) (E : Set) (ns : List ℕ) (o :
       length-take-le' (suc j) (x ∷ xs) = let r = length-take-le' j xs in omega arith
 
 -- among those who may, the first are those of the reserve part
-pub reserve-part : (places : List ℕ) (cs : List Contract) (X : Set)
-    → first (length cs) all (above cs) (reserve places cs) (common X (entitledOf places cs)) ≡ reserved places cs X
-reserve-part places cs X = fun_ext λ k. ⊎_elim (some k) (none k) (cases_lt 0 (reserve places cs k))
+pub reserve_part : (places : List ℕ) (cs : List Contract) (X : Set)
+    → first (length cs) all (above cs) (reserve places cs) (common X (entitled_of places cs)) ≡ reserved places cs X
+reserve_part places cs X = fun_ext λ k. ⊎_elim (some k) (none k) (cases_lt 0 (reserve places cs k))
   where
-    none : (k : ℕ) → reserve places cs k ≤ 0 → first (length cs) all (above cs) (reserve places cs) (common X (entitledOf places cs)) k ≡ reserved places cs X k
+    none : (k : ℕ) → reserve places cs k ≤ 0 → first (length cs) all (above cs) (reserve places cs) (common X (entitled_of places cs)) k ≡ reserved places cs X k
     none k z =
         and_left _ _ (and_right (X k) _ (and_right (flagged cs k) _ (le-ltb 0 (reserve places cs k) z)))
         ∙ sym (and_right (X k) _ (and_right (flagged cs k) _ (le-ltb _ (reserve places cs k) (omega arith))))
 
-    some : (k : ℕ) → 0 < reserve places cs k → first (length cs) all (above cs) (reserve places cs) (common X (entitledOf places cs)) k ≡ reserved places cs X k
+    some : (k : ℕ) → 0 < reserve places cs k → first (length cs) all (above cs) (reserve places cs) (common X (entitled_of places cs)) k ≡ reserved places cs X k
     some k p =
-        ap (λ n. (X k && (flagged cs k && nat_lt 0 (reserve places cs k))) && nat_lt n (reserve places cs k)) (passing-same (length cs) _ _ (λ j l. at j))
+        ap (λ n. (X k && (flagged cs k && nat_lt 0 (reserve places cs k))) && nat_lt n (reserve places cs k)) (passing_same (length cs) _ _ (λ j l. at j))
         ∙ ap (λ b. (X k && (flagged cs k && b)) && nat_lt (ahead (length cs) (flagged cs) (above cs) X k) (reserve places cs k)) (lt-ltb _ _ p)
         ∙ shuffle (X k) (flagged cs k) _
       where
@@ -183,7 +183,7 @@ reserve-part places cs X = fun_ext λ k. ⊎_elim (some k) (none k) (cases_lt 0 
         with-above true false c d h = refl
         with-above false b c d h = refl
 
-        at : (j : ℕ) → (common X (entitledOf places cs) j && (true && above cs j k)) ≡ (X j && (flagged cs j && above cs j k))
+        at : (j : ℕ) → (common X (entitled_of places cs) j && (true && above cs j k)) ≡ (X j && (flagged cs j && above cs j k))
         at j = with-above (X j) (flagged cs j) _ (above cs j k) (λ e. lt-ltb _ _ (let q : reserve places cs j ≡ reserve places cs k = ap (λ d. slice_index places d) (eqb-true _ _ (and_parts (together cs j k) _ e).0) in omega arith))
 
 -- a contract that may take a reserved place is at one of the dredgers that have places
@@ -194,13 +194,13 @@ entitled-dredger places c n e h =
     (cases_lt c.dredger n)
 
 -- so is each of those that were written out
-pub written-dredgers : (places : List ℕ) (cs : List Contract) (X E : Set) (n : ℕ) → length places ≡ n → E ≡ common X (entitledOf places cs)
-    → (k : ℕ) → E k ≡ true → (contractAt cs k).dredger < n
-written-dredgers places cs X E n l e k h =
-    entitled-dredger places (contractAt cs k) n l (and_parts (X k) (entitledOf places cs k) (ap (λ (Z : Set). Z k) (sym e) ∙ h)).1
+pub written_dredgers : (places : List ℕ) (cs : List Contract) (X E : Set) (n : ℕ) → length places ≡ n → E ≡ common X (entitled_of places cs)
+    → (k : ℕ) → E k ≡ true → (contract_at cs k).dredger < n
+written_dredgers places cs X E n l e k h =
+    entitled-dredger places (contract_at cs k) n l (and_parts (X k) (entitled_of places cs k) (ap (λ (Z : Set). Z k) (sym e) ∙ h)).1
 
 -- what the cut leaves of those who may is the reserve part
-pub part-is : (places : List ℕ) (cs ds : List Contract) (X E T : Set) → cs ≡ ds → E ≡ common X (entitledOf places cs)
+pub part_is : (places : List ℕ) (cs ds : List Contract) (X E T : Set) → cs ≡ ds → E ≡ common X (entitled_of places cs)
     → T ≡ first (length cs) all (above cs) (reserve places cs) E → T ≡ reserved places ds X
-part-is places cs ds X E T d e h =
-    h ∙ ap (λ (Z : Set). first (length cs) all (above cs) (reserve places cs) Z) e ∙ reserve-part places cs X ∙ ap (λ (z : List Contract). reserved places z X) d
+part_is places cs ds X E T d e h =
+    h ∙ ap (λ (Z : Set). first (length cs) all (above cs) (reserve places cs) Z) e ∙ reserve_part places cs X ∙ ap (λ (z : List Contract). reserved places z X) d

@@ -2,45 +2,45 @@
 use Rattle.std.specs.Prelude.{◌≡◌, ℕ, ◌<◌, Bool, cond, ◌&&◌, List, [], ◌∷◌, length, ◌==◌, ◌≢◌, nat_lt, slice_index}
 use Rattle.rules.specs.declared.table.Contract.{Contract}
 use Rattle.rules.specs.declared.table.Reservation.{Reservation}
-use Rattle.rules.specs.Contents.{contractAt, reserveAt}
+use Rattle.rules.specs.Contents.{contract_at, reserve_at}
 use Rattle.matching.specs.Sets.{Set, minus}
 use Rattle.matching.specs.Choices.{Choice, first}
 use Rattle.ranking.specs.Rank.{above}
 
 -- the contracts with flag 1
 abbrev pub flagged : List Contract → Set
-flagged cs k = (contractAt cs k).flag
+flagged cs k = (contract_at cs k).flag
 
 -- the places that are reserved at a contract's dredger
 abbrev pub reserve : List ℕ → List Contract → ℕ → ℕ
-reserve places cs k = slice_index places (contractAt cs k).dredger
+reserve places cs k = slice_index places (contract_at cs k).dredger
 
 -- the reserve part of a list: the flagged contracts that have fewer such contracts of their dredger above them than it has reserved places
 abbrev pub reserved : List ℕ → List Contract → Choice
 reserved places cs = first (length cs) (flagged cs) (above cs) (reserve places cs)
 
 -- what the board below says of the list without the reserve part
-abbrev pub reserve-reason : Choice → (Set → ℕ → ℕ × ℕ) → Set → ℕ → ℕ × ℕ
-reserve-reason R reason X k = reason (minus X (R X)) k
+abbrev pub reserve_reason : Choice → (Set → ℕ → ℕ × ℕ) → Set → ℕ → ℕ × ℕ
+reserve_reason R reason X k = reason (minus X (R X)) k
 
 -- the places that a deck's entries give a dredger, 0 where they give none
-abbrev pub seats-for : List Reservation → ℕ → ℕ
-seats-for [] v = 0
-seats-for (x ∷ xs) v = cond (x.dredger == v) x.seats (seats-for xs v)
+abbrev pub seats_for : List Reservation → ℕ → ℕ
+seats_for [] v = 0
+seats_for (x ∷ xs) v = cond (x.dredger == v) x.seats (seats_for xs v)
 
 -- a table has the places that the first n entries give
 pub record Reserving (rs : List Reservation) (n : ℕ) (places : List ℕ) : Type 0 where
-  pub given : (i : ℕ) → i < n → slice_index places (reserveAt rs i).dredger ≡ (reserveAt rs i).seats
-  pub none : (v : ℕ) → ((i : ℕ) → i < n → (reserveAt rs i).dredger ≢ v) → slice_index places v ≡ 0
+  pub given : (i : ℕ) → i < n → slice_index places (reserve_at rs i).dredger ≡ (reserve_at rs i).seats
+  pub none : (v : ℕ) → ((i : ℕ) → i < n → (reserve_at rs i).dredger ≢ v) → slice_index places v ≡ 0
 
 -- a contract that may take a reserved place
 abbrev pub entitled : List ℕ → Contract → Bool
 entitled places c = c.flag && nat_lt 0 (slice_index places c.dredger)
 
 -- the contracts that may
-abbrev pub entitledOf : List ℕ → List Contract → Set
-entitledOf places cs k = entitled places (contractAt cs k)
+abbrev pub entitled_of : List ℕ → List Contract → Set
+entitled_of places cs k = entitled places (contract_at cs k)
 
 -- the mark of a contract that stays where there is room for it or it is another
-abbrev pub left-or-out : Bool → Bool → ℕ → ℕ
-left-or-out room here x = cond here (cond room x 0) x
+abbrev pub left_or_out : Bool → Bool → ℕ → ℕ
+left_or_out room here x = cond here (cond room x 0) x

@@ -4,64 +4,64 @@ use Rattle.std.proofs.Common.{sym, ◌∙◌, ap, subst, inl, inr, ⊎_elim, ari
 use Rattle.std.proofs.lemmas.List.{get_or_past, get_or-replicate, length-replicate}
 use Rattle.std.proofs.lemmas.Bool.{cases_eq, cases_lt, cond-true, cond-false, eq-eqb, ne_eqb}
 use Rattle.rules.specs.declared.table.Reservation.{Reservation}
-use Rattle.rules.specs.Contents.{reserveAt}
+use Rattle.rules.specs.Contents.{reserve_at}
 use Rattle.deck.specs.Facts.{ReservesApart}
-use Rattle.reserve.specs.Reserves.{seats-for, Reserving}
+use Rattle.reserve.specs.Reserves.{seats_for, Reserving}
 
 abbrev zeros : ℕ → List ℕ
 zeros n = replicate n 0
 
-pub getD-zeros : (n v : ℕ) → slice_index (zeros n) v ≡ 0
-getD-zeros n v = ⊎_elim (λ l. get_or-replicate n v 0 0 l)
+pub get_or-zeros : (n v : ℕ) → slice_index (zeros n) v ≡ 0
+get_or-zeros n v = ⊎_elim (λ l. get_or-replicate n v 0 0 l)
     (λ l. get_or_past (zeros n) v 0 (let e : length (zeros n) ≡ n = length-replicate n 0 in omega arith)) (cases_lt v n)
 
-pub reserving-none : (rs : List Reservation) (n : ℕ) → Reserving rs 0 (replicate n 0)
-reserving-none rs n = record { given = λ i l. absurd (omega arith); none = λ v h. getD-zeros n v }
+pub reserving_none : (rs : List Reservation) (n : ℕ) → Reserving rs 0 (replicate n 0)
+reserving_none rs n = record { given = λ i l. absurd (omega arith); none = λ v h. get_or-zeros n v }
 
-reserving-more : (rs : List Reservation) (i : ℕ) (places : List ℕ) → ReservesApart rs → i < length rs → (reserveAt rs i).dredger < length places
-    → Reserving rs i places → Reserving rs (i + 1) (slice_set places (reserveAt rs i).dredger (reserveAt rs i).seats)
-reserving-more rs i places apart l in-range h = record {
+reserving_more : (rs : List Reservation) (i : ℕ) (places : List ℕ) → ReservesApart rs → i < length rs → (reserve_at rs i).dredger < length places
+    → Reserving rs i places → Reserving rs (i + 1) (slice_set places (reserve_at rs i).dredger (reserve_at rs i).seats)
+reserving_more rs i places apart l in-range h = record {
   given = λ j m. ⊎_elim
-      (λ q. get_or-set_other places (reserveAt rs i).dredger (reserveAt rs j).dredger (reserveAt rs i).seats 0 (λ e. apart j i (q, l) e) ∙ h.given j q)
+      (λ q. get_or-set_other places (reserve_at rs i).dredger (reserve_at rs j).dredger (reserve_at rs i).seats 0 (λ e. apart j i (q, l) e) ∙ h.given j q)
       (λ q. let e : j ≡ i = omega arith in same j e) (cases_lt j i);
   none = λ v no.
-      get_or-set_other places (reserveAt rs i).dredger v (reserveAt rs i).seats 0 (λ e. no i (omega arith) (sym e))
+      get_or-set_other places (reserve_at rs i).dredger v (reserve_at rs i).seats 0 (λ e. no i (omega arith) (sym e))
       ∙ h.none v (λ j m e. no j (omega arith) e);
 }
   where
-    same : (j : ℕ) → j ≡ i → slice_index (slice_set places (reserveAt rs i).dredger (reserveAt rs i).seats) (reserveAt rs j).dredger ≡ (reserveAt rs j).seats
+    same : (j : ℕ) → j ≡ i → slice_index (slice_set places (reserve_at rs i).dredger (reserve_at rs i).seats) (reserve_at rs j).dredger ≡ (reserve_at rs j).seats
     same j e =
-        ap (λ x. slice_index (slice_set places (reserveAt rs i).dredger (reserveAt rs i).seats) (reserveAt rs x).dredger) e
-        ∙ get_or-set_same places (reserveAt rs i).dredger (reserveAt rs i).seats 0 in-range ∙ sym (ap (λ x. (reserveAt rs x).seats) e)
+        ap (λ x. slice_index (slice_set places (reserve_at rs i).dredger (reserve_at rs i).seats) (reserve_at rs x).dredger) e
+        ∙ get_or-set_same places (reserve_at rs i).dredger (reserve_at rs i).seats 0 in-range ∙ sym (ap (λ x. (reserve_at rs x).seats) e)
 
-pub reserving-next : (rs : List Reservation) (i : ℕ) (places after : List ℕ) → ReservesApart rs → i < length rs → (reserveAt rs i).dredger < length places
-    → Reserving rs i places → after ≡ slice_set places (reserveAt rs i).dredger (reserveAt rs i).seats → Reserving rs (i + 1) after
-reserving-next rs i places after apart l in-range h e =
-    let P : List ℕ → Type 0 = λ ps. Reserving rs (i + 1) ps in subst P (sym e) (reserving-more rs i places apart l in-range h)
+pub reserving_next : (rs : List Reservation) (i : ℕ) (places after : List ℕ) → ReservesApart rs → i < length rs → (reserve_at rs i).dredger < length places
+    → Reserving rs i places → after ≡ slice_set places (reserve_at rs i).dredger (reserve_at rs i).seats → Reserving rs (i + 1) after
+reserving_next rs i places after apart l in-range h e =
+    let P : List ℕ → Type 0 = λ ps. Reserving rs (i + 1) ps in subst P (sym e) (reserving_more rs i places apart l in-range h)
 
 -- the first entry of a dredger, if it has one
-looked-up : (rs : List Reservation) (v : ℕ)
-    → ((i : ℕ) × (i < length rs) × ((reserveAt rs i).dredger ≡ v) × (seats-for rs v ≡ (reserveAt rs i).seats))
-    ⊎ (((i : ℕ) → i < length rs → (reserveAt rs i).dredger ≢ v) × (seats-for rs v ≡ 0))
-looked-up [] v = inr ((λ i l e. absurd (omega arith)), refl)
-looked-up (x ∷ xs) v = ⊎_elim (λ e. inl (0, omega arith, e, cond-true _ _ _ (eq-eqb _ _ e))) (λ ne. later ne (looked-up xs v)) (cases_eq x.dredger v)
+looked_up : (rs : List Reservation) (v : ℕ)
+    → ((i : ℕ) × (i < length rs) × ((reserve_at rs i).dredger ≡ v) × (seats_for rs v ≡ (reserve_at rs i).seats))
+    ⊎ (((i : ℕ) → i < length rs → (reserve_at rs i).dredger ≢ v) × (seats_for rs v ≡ 0))
+looked_up [] v = inr ((λ i l e. absurd (omega arith)), refl)
+looked_up (x ∷ xs) v = ⊎_elim (λ e. inl (0, omega arith, e, cond-true _ _ _ (eq-eqb _ _ e))) (λ ne. later ne (looked_up xs v)) (cases_eq x.dredger v)
   where
-    rest : (x.dredger ≢ v) → seats-for (x ∷ xs) v ≡ seats-for xs v
+    rest : (x.dredger ≢ v) → seats_for (x ∷ xs) v ≡ seats_for xs v
     rest ne = cond-false _ _ _ (ne_eqb _ _ ne)
 
     later : (x.dredger ≢ v)
-        → ((i : ℕ) × (i < length xs) × ((reserveAt xs i).dredger ≡ v) × (seats-for xs v ≡ (reserveAt xs i).seats))
-        ⊎ (((i : ℕ) → i < length xs → (reserveAt xs i).dredger ≢ v) × (seats-for xs v ≡ 0))
-        → ((i : ℕ) × (i < length (x ∷ xs)) × ((reserveAt (x ∷ xs) i).dredger ≡ v) × (seats-for (x ∷ xs) v ≡ (reserveAt (x ∷ xs) i).seats))
-        ⊎ (((i : ℕ) → i < length (x ∷ xs) → (reserveAt (x ∷ xs) i).dredger ≢ v) × (seats-for (x ∷ xs) v ≡ 0))
+        → ((i : ℕ) × (i < length xs) × ((reserve_at xs i).dredger ≡ v) × (seats_for xs v ≡ (reserve_at xs i).seats))
+        ⊎ (((i : ℕ) → i < length xs → (reserve_at xs i).dredger ≢ v) × (seats_for xs v ≡ 0))
+        → ((i : ℕ) × (i < length (x ∷ xs)) × ((reserve_at (x ∷ xs) i).dredger ≡ v) × (seats_for (x ∷ xs) v ≡ (reserve_at (x ∷ xs) i).seats))
+        ⊎ (((i : ℕ) → i < length (x ∷ xs) → (reserve_at (x ∷ xs) i).dredger ≢ v) × (seats_for (x ∷ xs) v ≡ 0))
     later ne (inl r) = inl (suc r.0, (let l = r.1 in omega arith), r.2, rest ne ∙ r.3)
     later ne (inr r) = inr (nowhere, rest ne ∙ r.1)
       where
-        nowhere : (i : ℕ) → i < suc (length xs) → (reserveAt (x ∷ xs) i).dredger ≢ v
+        nowhere : (i : ℕ) → i < suc (length xs) → (reserve_at (x ∷ xs) i).dredger ≢ v
         nowhere zero l e = ne e
         nowhere (suc i) l e = r.0 i (omega arith) e
 
-pub reserving-all : (rs : List Reservation) (n : ℕ) (places : List ℕ) → length rs ≤ n → n ≤ length rs → Reserving rs n places → (v : ℕ) → slice_index places v ≡ seats-for rs v
-reserving-all rs n places a b h v = ⊎_elim
+pub reserving_all : (rs : List Reservation) (n : ℕ) (places : List ℕ) → length rs ≤ n → n ≤ length rs → Reserving rs n places → (v : ℕ) → slice_index places v ≡ seats_for rs v
+reserving_all rs n places a b h v = ⊎_elim
     (λ r. let l = r.1 in ap (λ x. slice_index places x) (sym r.2) ∙ h.given r.0 (omega arith) ∙ sym r.3)
-    (λ r. h.none v (λ i l. r.0 i (omega arith)) ∙ sym r.1) (looked-up rs v)
+    (λ r. h.none v (λ i l. r.0 i (omega arith)) ∙ sym r.1) (looked_up rs v)

@@ -3,7 +3,7 @@ ghost use Rattle.std.specs.Prelude.{◌≡◌, ℕ, ◌<◌, true, length, slice
 ghost use Rattle.board.specs.Calls.{Chosen, Explained};
 ghost use Rattle.board.specs.Marks.{member};
 ghost use Rattle.deck.specs.Contents.{data_of};
-ghost use Rattle.reserve.specs.Reserves.{reserve-reason, reserved, seats-for};
+ghost use Rattle.reserve.specs.Reserves.{reserve_reason, reserved, seats_for};
 ghost use Rattle.matching.specs.Choices.{over};
 ghost use Rattle.matching.proofs.Made.{over-lawful};
 ghost use Rattle.reserve.specs.Cutting.{reserved-lawful};
@@ -26,7 +26,7 @@ impl<C> Reserve<C> {
     // The reserves of a deck, on this board.
     pub fn of(below: C, deck: &Deck) -> Reserve<C>
         ensures below { result.below ≡ below }
-        ensures reserves { (v : ℕ) → slice_index result.reserves.places v ≡ seats-for (data_of deck.now).reserves v }
+        ensures reserves { (v : ℕ) → slice_index result.reserves.places v ≡ seats_for (data_of deck.now).reserves v }
     {
         Reserve {
             below,
@@ -85,7 +85,7 @@ impl<C: Explain> Reserve<C> {
         requires { (length marks.now ≡ length (data_of deck.now).contracts) × ((k < length (data_of deck.now).contracts) × (member marks.now k ≡ true)) }
         ensures { Explained
             (over (reserved self.now.reserves.places (data_of deck.now).contracts) (C.Board.kept self.now.below (data_of deck.now)))
-            (reserve-reason (reserved self.now.reserves.places (data_of deck.now).contracts) (C.Explain.reason self.now.below (data_of deck.now)))
+            (reserve_reason (reserved self.now.reserves.places (data_of deck.now).contracts) (C.Explain.reason self.now.below (data_of deck.now)))
             (length (data_of deck.now).contracts) marks.now k result }
     {
         let n = marks.len();
@@ -104,7 +104,7 @@ impl<C: Explain> Reserve<C> {
 }
 
 impl<C: Explain> Explain for Reserve<C> {
-    ghost reason = { λ s t. reserve-reason (reserved s.reserves.places t.contracts) (C.Explain.reason s.below t) };
+    ghost reason = { λ s t. reserve_reason (reserved s.reserves.places t.contracts) (C.Explain.reason s.below t) };
 
     ghost further = { Prim.search rules };
 

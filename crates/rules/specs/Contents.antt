@@ -16,8 +16,8 @@ pub record Content : Type 0 where
   pub contracts : List Contract
   pub bars : List Barring
 
-abbrev pub contentOf : Tables → Content
-contentOf t = record {
+abbrev pub content_of : Tables → Content
+content_of t = record {
   groups = t.groups.now;
   seats = t.seats.now;
   reserves = t.reserves.now;
@@ -30,39 +30,39 @@ abbrev pub nothing : Content
 nothing = record { groups = []; seats = []; reserves = []; trainees = []; contracts = []; bars = [] }
 
 -- what is read past the end of a table
-abbrev pub zeroGroup : Group
-zeroGroup = record { parent = 0; capacity = 0; name = 0; dredger = 0 }
+abbrev pub zero_group : Group
+zero_group = record { parent = 0; capacity = 0; name = 0; dredger = 0 }
 
-abbrev pub zeroSeat : Seat
-zeroSeat = record { dredger = 0; rule = 0 }
+abbrev pub zero_seat : Seat
+zero_seat = record { dredger = 0; rule = 0 }
 
-abbrev pub zeroReservation : Reservation
-zeroReservation = record { dredger = 0; seats = 0 }
+abbrev pub zero_reservation : Reservation
+zero_reservation = record { dredger = 0; seats = 0 }
 
-abbrev pub zeroTrainee : Trainee
-zeroTrainee = record { lot = 0; flag = false; name = 0 }
+abbrev pub zero_trainee : Trainee
+zero_trainee = record { lot = 0; flag = false; name = 0 }
 
-abbrev pub zeroContract : Contract
-zeroContract = record { trainee = 0; group = 0; dredger = 0; points = 0; term = 0; lot = 0; flag = false }
+abbrev pub zero_contract : Contract
+zero_contract = record { trainee = 0; group = 0; dredger = 0; points = 0; term = 0; lot = 0; flag = false }
 
-abbrev pub zeroBarring : Barring
-zeroBarring = record { trainee = 0; dredger = 0 }
+abbrev pub zero_barring : Barring
+zero_barring = record { trainee = 0; dredger = 0 }
 
 -- an entry by its number
-abbrev pub groupAt : List Group → ℕ → Group
-groupAt gs k = slice_index_or gs k zeroGroup
+abbrev pub group_at : List Group → ℕ → Group
+group_at gs k = slice_index_or gs k zero_group
 
-abbrev pub seatAt : List Seat → ℕ → Seat
-seatAt ss k = slice_index_or ss k zeroSeat
+abbrev pub seat_at : List Seat → ℕ → Seat
+seat_at ss k = slice_index_or ss k zero_seat
 
-abbrev pub reserveAt : List Reservation → ℕ → Reservation
-reserveAt rs k = slice_index_or rs k zeroReservation
+abbrev pub reserve_at : List Reservation → ℕ → Reservation
+reserve_at rs k = slice_index_or rs k zero_reservation
 
-abbrev pub traineeAt : List Trainee → ℕ → Trainee
-traineeAt ts k = slice_index_or ts k zeroTrainee
+abbrev pub trainee_at : List Trainee → ℕ → Trainee
+trainee_at ts k = slice_index_or ts k zero_trainee
 
-abbrev pub contractAt : List Contract → ℕ → Contract
-contractAt cs k = slice_index_or cs k zeroContract
+abbrev pub contract_at : List Contract → ℕ → Contract
+contract_at cs k = slice_index_or cs k zero_contract
 
-abbrev pub barAt : List Barring → ℕ → Barring
-barAt bs k = slice_index_or bs k zeroBarring
+abbrev pub bar_at : List Barring → ℕ → Barring
+bar_at bs k = slice_index_or bs k zero_barring

@@ -14,7 +14,7 @@ use Rattle.rules.specs.declared.table.Reservation.{Reservation}
 use Rattle.rules.specs.declared.table.Trainee.{Trainee as TraineeEntry}
 use Rattle.rules.specs.declared.table.Contract.{Contract}
 use Rattle.rules.specs.declared.table.Barring.{Barring}
-use Rattle.rules.specs.Contents.{Content, groupAt, reserveAt, traineeAt, contractAt, barAt}
+use Rattle.rules.specs.Contents.{Content, group_at, reserve_at, trainee_at, contract_at, bar_at}
 use Rattle.rules.specs.Order.{may, after}
 
 -- the most entries of a kind
@@ -46,7 +46,7 @@ Printable n = (i : ℕ) → i < length n → (32 ≤ slice_index n i) × (slice_
 
 -- a given group without parent
 abbrev pub IsDredger : List GroupEntry → ℕ → Type 0
-IsDredger gs d = (d < length gs) × ((groupAt gs d).parent ≡ 255)
+IsDredger gs d = (d < length gs) × ((group_at gs d).parent ≡ 255)
 
 -- no parent, or an earlier group
 abbrev pub IsParent : List GroupEntry → ℕ → Type 0
@@ -68,19 +68,19 @@ current t = length t.trainees - 1
 
 -- the dredger has no reserve yet
 abbrev pub FreshReserve : List Reservation → ℕ → Type 0
-FreshReserve rs d = (k : ℕ) → k < length rs → (reserveAt rs k).dredger ≢ d
+FreshReserve rs d = (k : ℕ) → k < length rs → (reserve_at rs k).dredger ≢ d
 
 -- no trainee has this lot yet
 abbrev pub FreshLot : List TraineeEntry → ℕ → Type 0
-FreshLot ts l = (k : ℕ) → k < length ts → (traineeAt ts k).lot ≢ l
+FreshLot ts l = (k : ℕ) → k < length ts → (trainee_at ts k).lot ≢ l
 
 -- the trainee has no wish for a group of this dredger yet
 abbrev pub FreshWish : List Contract → ℕ → ℕ → Type 0
-FreshWish cs t d = (k : ℕ) → k < length cs → (contractAt cs k).trainee ≡ t → (contractAt cs k).dredger ≢ d
+FreshWish cs t d = (k : ℕ) → k < length cs → (contract_at cs k).trainee ≡ t → (contract_at cs k).dredger ≢ d
 
 -- the trainee has no bar for this dredger yet
 abbrev pub FreshBar : List Barring → ℕ → ℕ → Type 0
-FreshBar bs t d = (k : ℕ) → k < length bs → (barAt bs k).trainee ≡ t → (barAt bs k).dredger ≢ d
+FreshBar bs t d = (k : ℕ) → k < length bs → (bar_at bs k).trainee ≡ t → (bar_at bs k).dredger ≢ d
 
 -- the record repeats no lot, wish, bar or reserve
 abbrev pub Fresh : Content → Record → Type 0
@@ -88,7 +88,7 @@ Fresh t (Group p c n) = Unit {0}
 Fresh t (Seat d r) = Unit {0}
 Fresh t (Reserve d s) = FreshReserve t.reserves d
 Fresh t (Trainee l f n) = FreshLot t.trainees l
-Fresh t (Wish g p m) = FreshWish t.contracts (current t) (groupAt t.groups g).dredger
+Fresh t (Wish g p m) = FreshWish t.contracts (current t) (group_at t.groups g).dredger
 Fresh t (Bar d) = FreshBar t.bars (current t) d
 Fresh t (End n) = Unit {0}
 

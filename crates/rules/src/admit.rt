@@ -1,7 +1,7 @@
 // Admitting the next record of a deck.
 ghost use Rattle.std.specs.Prelude.{◌≡◌, ℕ, ◌+◌, ◌<◌, ◌≤◌, length, drop, MatchResult};
 ghost use Rattle.format.specs.Layout.{Took, kind};
-ghost use Rattle.rules.specs.Contents.{contentOf};
+ghost use Rattle.rules.specs.Contents.{content_of};
 ghost use Rattle.rules.specs.Order.{after};
 ghost use Rattle.rules.specs.Rules.{Admitted, Allowed, RecordNo};
 
@@ -19,8 +19,8 @@ pub fn admit(
     past: Tables,
 ) -> Result<(Record, Section), RecordFault>
     ensures same { reader.new.bytes.now ≡ reader.old.bytes.now }
-    ensures cases { MatchResult result (λ x. Admitted section (contentOf past.entry) reader.old.bytes.now reader.old.place reader.new.place x)
-        (λ f. RecordNo section (contentOf past.entry) (drop reader.old.place reader.old.bytes.now) reader.old.place f) }
+    ensures cases { MatchResult result (λ x. Admitted section (content_of past.entry) reader.old.bytes.now reader.old.place reader.new.place x)
+        (λ f. RecordNo section (content_of past.entry) (drop reader.old.place reader.old.bytes.now) reader.old.place f) }
 {
     let place = reader.place();
     let next = advance(section, reader.kind()?, place)?;

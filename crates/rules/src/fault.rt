@@ -1,5 +1,5 @@
 // A fault of the record layer, with one of the byte layer whole.
-ghost use Rattle.rules.specs.Refusals.{byRecords, recordOf, recordRefusal};
+ghost use Rattle.rules.specs.Refusals.{by_records, record_fault_of, record_refusal};
 ghost use Rattle.std.specs.Prelude.{◌≡◌};
 
 use format::fault::{ByteFault, Layer, Refusal};
@@ -14,7 +14,7 @@ pub enum RecordFault {
 }
 
 impl From<ByteFault> for RecordFault {
-    ghost from_gives = { λ x y. y ≡ recordOf x };
+    ghost from_gives = { λ x y. y ≡ record_fault_of x };
 
     fn from(f: ByteFault) -> RecordFault {
         RecordFault::Bytes(f)
@@ -23,7 +23,7 @@ impl From<ByteFault> for RecordFault {
 
 // A refusal by this layer.
 fn at(number: u8, place: usize) -> Refusal
-    ensures { result ≡ byRecords number place }
+    ensures { result ≡ by_records number place }
 {
     Refusal {
         number,
@@ -34,7 +34,7 @@ fn at(number: u8, place: usize) -> Refusal
 
 impl RecordFault {
     pub fn refusal(&self) -> Refusal
-        ensures { result ≡ recordRefusal self.now }
+        ensures { result ≡ record_refusal self.now }
     {
         match self {
             RecordFault::Bytes(f) => f.refusal(),

@@ -1,7 +1,7 @@
 // Whether a record keeps the rules, given the entries of those before it.
 ghost use Rattle.std.specs.Prelude.{◌≡◌, ℕ, ◌+◌, ◌<◌, ◌≤◌, length, Decides, MatchResult};
 ghost use Rattle.format.specs.Layout.{kind};
-ghost use Rattle.rules.specs.Contents.{contentOf};
+ghost use Rattle.rules.specs.Contents.{content_of};
 ghost use Rattle.rules.specs.Rules.{Fresh, FreshBar, FreshLot, FreshReserve, FreshWish, InRange, IsDredger, IsParent, Printable, Room, RuleNo, Ruled};
 
 use crate::fault::RecordFault;
@@ -10,7 +10,7 @@ use format::record::{Kind, Record};
 
 // Whether a table of this kind has an entry left under its most.
 fn has_room(next: Kind, past: Tables) -> bool
-    ensures { Decides result (Room (contentOf past.entry) next) }
+    ensures { Decides result (Room (content_of past.entry) next) }
 {
     match next {
         Kind::Group => past.groups.len() < 64,
@@ -110,8 +110,8 @@ fn is_new_bar(bars: &[Barring], trainee: usize, dredger: u8) -> bool
 
 // Whether the record repeats no lot, wish, bar or reserve.
 fn is_fresh(rec: Record, past: Tables) -> bool
-    requires { InRange (contentOf past).groups rec }
-    ensures { Decides result (Fresh (contentOf past.entry) rec) }
+    requires { InRange (content_of past).groups rec }
+    ensures { Decides result (Fresh (content_of past.entry) rec) }
 {
     let trainee = past.trainees.len().saturating_sub(1);
     match rec {
@@ -128,7 +128,7 @@ fn is_fresh(rec: Record, past: Tables) -> bool
 
 // Questions 7, 8 and 9, in this order, of a record at `place`.
 pub fn judge(rec: Record, past: Tables, place: usize) -> Result<(), RecordFault>
-    ensures { MatchResult result (λ _. Ruled (contentOf past.entry) rec) (λ f. RuleNo (contentOf past.entry) rec place f) }
+    ensures { MatchResult result (λ _. Ruled (content_of past.entry) rec) (λ f. RuleNo (content_of past.entry) rec place f) }
 {
     if !has_room(rec.kind(), past) {
         return Err(RecordFault::Full { place });

@@ -5,8 +5,8 @@ use Rattle.std.proofs.lemmas.List.{get_or-replicate}
 use Rattle.std.proofs.lemmas.Bool.{cases_eq}
 use Rattle.rules.specs.declared.table.Contract.{Contract}
 use Rattle.matching.specs.Sets.{Set}
-use Rattle.seats.specs.Ready.{nth, dredgerAt, Holds, Rises, Starts, Points}
-use Rattle.ranking.proofs.Lineups.{precedes-dredgers}
+use Rattle.seats.specs.Ready.{nth, dredger_at, Holds, Rises, Starts, Points}
+use Rattle.ranking.proofs.Lineups.{precedes_dredgers}
 
 pub starts_none : (cs : List Contract) (row : List ℕ) (m w : ℕ) → w ≡ 256 → Starts cs row m m (replicate w m)
 starts_none cs row m w e = record {
@@ -20,7 +20,7 @@ starts_none cs row m w e = record {
     at g l = get_or-replicate w g m 0 (omega arith)
 
 -- the place j before, of dredger d, begins d
-pub starts_more : (cs : List Contract) (row : List ℕ) (m i j d : ℕ) (next : List ℕ) → Rises cs row m → i ≤ m → i ≡ j + 1 → d < 256 → d ≡ dredgerAt cs row j
+pub starts_more : (cs : List Contract) (row : List ℕ) (m i j d : ℕ) (next : List ℕ) → Rises cs row m → i ≤ m → i ≡ j + 1 → d < 256 → d ≡ dredger_at cs row j
     → Starts cs row m i next → Starts cs row m j (set next d j)
 starts_more cs row m i j d next rises long e small is h = record { wide = wide; inside = inside; absent = absent; onward = onward }
   where
@@ -36,20 +36,20 @@ starts_more cs row m i j d next rises long e small is h = record { wide = wide; 
     inside : (g : ℕ) → g < 256 → nth (set next d j) g ≤ m
     inside g l = ⊎_elim (λ q. let a = here g q in omega arith) (λ ne. let a = there g ne in let b = h.inside g l in omega arith) (cases_eq g d)
 
-    absent : (g k : ℕ) → g < 256 → j ≤ k → k < nth (set next d j) g → dredgerAt cs row k ≡ g → ⊥
+    absent : (g k : ℕ) → g < 256 → j ≤ k → k < nth (set next d j) g → dredger_at cs row k ≡ g → ⊥
     absent g k l u v x = ⊎_elim (λ q. let a = here g q in omega arith)
-        (λ ne. let a = there g ne in ⊎_elim (λ z. ne (sym x ∙ ap (dredgerAt cs row) (sym z) ∙ sym is)) (λ z. h.absent g k l (omega arith) (omega arith) x) (cases_eq j k))
+        (λ ne. let a = there g ne in ⊎_elim (λ z. ne (sym x ∙ ap (dredger_at cs row) (sym z) ∙ sym is)) (λ z. h.absent g k l (omega arith) (omega arith) x) (cases_eq j k))
         (cases_eq g d)
 
-    onward : (g k : ℕ) → g < 256 → nth (set next d j) g ≤ k → k < m → g ≤ dredgerAt cs row k
+    onward : (g k : ℕ) → g < 256 → nth (set next d j) g ≤ k → k < m → g ≤ dredger_at cs row k
     onward g k l u v = ⊎_elim
         (λ q. let a = here g q in ⊎_elim
-        (λ z. let y : dredgerAt cs row j ≡ dredgerAt cs row k = ap (dredgerAt cs row) z in omega arith)
-        (λ z. let y : dredgerAt cs row j ≤ dredgerAt cs row k = rises.rising j k (omega arith) v in omega arith) (cases_eq j k))
+        (λ z. let y : dredger_at cs row j ≡ dredger_at cs row k = ap (dredger_at cs row) z in omega arith)
+        (λ z. let y : dredger_at cs row j ≤ dredger_at cs row k = rises.rising j k (omega arith) v in omega arith) (cases_eq j k))
         (λ ne. let a = there g ne in h.onward g k l (omega arith) v) (cases_eq g d)
 
-pub starts-points : (cs : List Contract) (R : Set) (row : List ℕ) (m : ℕ) (next : List ℕ) → Starts cs row m 0 next → Points cs R row m next
-starts-points cs R row m next h = record {
+pub starts_points : (cs : List Contract) (R : Set) (row : List ℕ) (m : ℕ) (next : List ℕ) → Starts cs row m 0 next → Points cs R row m next
+starts_points cs R row m next h = record {
   wide = h.wide;
   inside = h.inside;
   passed = λ g i l u d. absurd (h.absent g i l (omega arith) u d);
@@ -57,4 +57,4 @@ starts-points cs R row m next h = record {
 }
 
 pub holds-rises : (rule : ℕ) (cs : List Contract) (R : Set) (row : List ℕ) (m : ℕ) → Holds rule cs R row m → Rises cs row m
-holds-rises rule cs R row m h = record { few = h.few; known = h.known; rising = λ i j a b. precedes-dredgers rule cs (nth row i) (nth row j) (h.sorted i j a b) }
+holds-rises rule cs R row m h = record { few = h.few; known = h.known; rising = λ i j a b. precedes_dredgers rule cs (nth row i) (nth row j) (h.sorted i j a b) }

@@ -2,15 +2,15 @@
 use Rattle.std.specs.Prelude.{◌≡◌, ℕ, ◌<◌, true, List, length, ◌≢◌}
 use Rattle.rules.specs.declared.table.Contract.{Contract}
 use Rattle.rules.specs.declared.table.Seat.{Seat}
-use Rattle.rules.specs.Contents.{contractAt, seatAt}
+use Rattle.rules.specs.Contents.{contract_at, seat_at}
 use Rattle.matching.specs.Sets.{Set, Within}
 use Rattle.seats.specs.Taking.{before, takes}
 
 -- k is in X and at the seat's dredger, and every other contract of X at that dredger comes after it by the seat's rule
 pub record Best (s : Seat) (cs : List Contract) (X : Set) (k : ℕ) : Type 0 where
   pub listed : X k ≡ true
-  pub there : (contractAt cs k).dredger ≡ s.dredger
-  pub others : (j : ℕ) → X j ≡ true → (contractAt cs j).dredger ≡ s.dredger → (j ≢ k) → before cs s.rule k j ≡ true
+  pub there : (contract_at cs k).dredger ≡ s.dredger
+  pub others : (j : ℕ) → X j ≡ true → (contract_at cs j).dredger ≡ s.dredger → (j ≢ k) → before cs s.rule k j ≡ true
 
 -- a seat takes the best contract of every list, and nothing else
 pub record Follows (s : Seat) : Type 0 where
@@ -18,5 +18,5 @@ pub record Follows (s : Seat) : Type 0 where
   pub taken : (cs : List Contract) (X : Set) → Within (length cs) X → (k : ℕ) → Best s cs X k → takes s cs X k ≡ true
 
 -- each of the first n seats does
-abbrev pub All-follow : List Seat → ℕ → Type 0
-All-follow ss n = (i : ℕ) → i < n → Follows (seatAt ss i)
+abbrev pub AllFollow : List Seat → ℕ → Type 0
+AllFollow ss n = (i : ℕ) → i < n → Follows (seat_at ss i)

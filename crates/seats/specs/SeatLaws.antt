@@ -3,22 +3,22 @@ use Rattle.std.specs.Prelude.{ℕ, List, [], ◌∷◌, length, refl}
 use Rattle.std.proofs.lemmas.Bool.{false≢true}
 use Rattle.rules.specs.declared.table.Contract.{Contract}
 use Rattle.rules.specs.declared.table.Seat.{Seat}
-use Rattle.rules.specs.Contents.{contractAt}
+use Rattle.rules.specs.Contents.{contract_at}
 use Rattle.matching.specs.Choices.{Lawful, Strict}
 use Rattle.matching.proofs.Firsts.{first-lawful}
 use Rattle.matching.proofs.Made.{over-lawful}
 use Rattle.seats.specs.Taking.{at, before, takes, seated}
-use Rattle.ranking.proofs.Orderings.{rules-order}
+use Rattle.ranking.proofs.Orderings.{rules_order}
 
-pub rule-strict : (cs : List Contract) (rule : ℕ) → Strict (before cs rule) (λ k. 1)
-rule-strict cs rule = record {
-  irreflexive = λ i. (rules-order rule).irreflexive (contractAt cs i) i;
-  transitive = λ i j k. (rules-order rule).transitive (contractAt cs i) (contractAt cs j) (contractAt cs k) i j k;
+pub rule_strict : (cs : List Contract) (rule : ℕ) → Strict (before cs rule) (λ k. 1)
+rule_strict cs rule = record {
+  irreflexive = λ i. (rules_order rule).irreflexive (contract_at cs i) i;
+  transitive = λ i j k. (rules_order rule).transitive (contract_at cs i) (contract_at cs j) (contract_at cs k) i j k;
   bound = λ i j e. refl;
 }
 
 pub takes-lawful : (s : Seat) (cs : List Contract) → Lawful (length cs) (takes s cs)
-takes-lawful s cs = first-lawful (length cs) (at cs s.dredger) (before cs s.rule) (λ k. 1) (rule-strict cs s.rule)
+takes-lawful s cs = first-lawful (length cs) (at cs s.dredger) (before cs s.rule) (λ k. 1) (rule_strict cs s.rule)
 
 pub seated-lawful : (ss : List Seat) (cs : List Contract) → Lawful (length cs) (seated ss cs)
 seated-lawful [] cs = record {

@@ -12,8 +12,8 @@ use Rattle.seats.specs.Taking.{takes, seated}
 -- one lineup for each rule
 pub record Prepared (cs : List Contract) (R : Set) (ls : Lineups) : Type 0 where
   pub by_rank : ls.rank.rule ≡ 0
-  pub by-lot : ls.lot.rule ≡ 1
-  pub by-term : ls.term.rule ≡ 2
+  pub by_lot : ls.lot.rule ≡ 1
+  pub by_term : ls.term.rule ≡ 2
   pub rank : Stands cs R ls.rank
   pub lot : Stands cs R ls.lot
   pub term : Stands cs R ls.term

@@ -2,26 +2,26 @@
 use Rattle.std.specs.Prelude.{ℕ, Bool, List, [], ◌∷◌, length, ◌==◌}
 use Rattle.rules.specs.declared.table.Contract.{Contract}
 use Rattle.rules.specs.declared.table.Seat.{Seat}
-use Rattle.rules.specs.Contents.{contractAt}
+use Rattle.rules.specs.Contents.{contract_at}
 use Rattle.matching.specs.Sets.{Set, none}
 use Rattle.matching.specs.Choices.{Choice, over, first}
 use Rattle.ranking.specs.Rank.{prefers}
 
 -- the contracts at a dredger
 abbrev pub at : List Contract → ℕ → Set
-at cs dredger k = (contractAt cs k).dredger == dredger
+at cs dredger k = (contract_at cs k).dredger == dredger
 
 -- contract i comes before contract j by a rule
 abbrev pub before : List Contract → ℕ → ℕ → ℕ → Bool
-before cs rule i j = prefers rule (contractAt cs i) (contractAt cs j) i j
+before cs rule i j = prefers rule (contract_at cs i) (contract_at cs j) i j
 
 -- the first contract at a dredger by a rule
-abbrev pub first-at : ℕ → ℕ → List Contract → Choice
-first-at dredger rule cs = first (length cs) (at cs dredger) (before cs rule) (λ k. 1)
+abbrev pub first_at : ℕ → ℕ → List Contract → Choice
+first_at dredger rule cs = first (length cs) (at cs dredger) (before cs rule) (λ k. 1)
 
 -- a seat takes the first contract at its dredger, by its rule
 abbrev pub takes : Seat → List Contract → Choice
-takes s cs = first-at s.dredger s.rule cs
+takes s cs = first_at s.dredger s.rule cs
 
 -- in list order each seat takes of what is left
 abbrev pub seated : List Seat → List Contract → Choice

@@ -3,7 +3,7 @@ ghost use Rattle.std.specs.Prelude.{◌≡◌, ◌<◌, length, take};
 ghost use Rattle.board.specs.Marks.{marked, member};
 ghost use Rattle.deck.specs.Contents.{data_of};
 ghost use Rattle.matching.specs.Sets.{minus};
-ghost use Rattle.rules.specs.Contents.{contractAt};
+ghost use Rattle.rules.specs.Contents.{contract_at};
 ghost use Rattle.seats.specs.Seating.{Keeps, Taken};
 ghost use Rattle.seats.specs.Taking.{seated};
 ghost use Rattle.seats.specs.SeatLaws.{seated-lawful};
@@ -80,7 +80,7 @@ impl Board for Seats {
 }
 
 impl Explain for Seats {
-    ghost reason = { λ s t X k. (3, (contractAt t.contracts k).dredger) };
+    ghost reason = { λ s t X k. (3, (contract_at t.contracts k).dredger) };
 
     ghost further = { first_of (Prim.search rules, Prim.grind (arith, Self.row.coded.inj)) };
 

@@ -1,8 +1,8 @@
 // The contracts of a list, lined up by a rule.
 ghost use Rattle.board.specs.Marks.{member};
 ghost use Rattle.deck.specs.Contents.{data_of};
-ghost use Rattle.seats.specs.Ready.{Found, Gives, Is, Makes, Named, Ready, Rises, Stands, Starts, dredgerAt, gone};
-ghost use Rattle.seats.specs.Taking.{first-at};
+ghost use Rattle.seats.specs.Ready.{Found, Gives, Is, Makes, Named, Ready, Rises, Stands, Starts, dredger_at, gone};
+ghost use Rattle.seats.specs.Taking.{first_at};
 ghost use Rattle.std.specs.Prelude.{◌≡◌, false, length, ◌==◌};
 
 use board::unfit::Unfit;
@@ -36,7 +36,7 @@ impl Lineup {
     // Is the contract at place p at the dredger?
     fn is_at(&self, deck: &Deck, dredger: u8, p: usize) -> bool
         requires { Named (data_of deck.now).contracts self.now.numbers p }
-        ensures { result ≡ (dredgerAt (data_of deck.now).contracts self.now.numbers p == dredger) }
+        ensures { result ≡ (dredger_at (data_of deck.now).contracts self.now.numbers p == dredger) }
     {
         deck.contracts()[self.numbers[p] as usize].dredger == dredger
     }
@@ -68,7 +68,7 @@ impl Lineup {
         requires rest_len { length rest.now ≡ length (data_of deck.now).contracts }
         requires ready_2 { Ready (data_of deck.now).contracts (member rest.now) self.old }
         ensures best { Is (length (data_of deck.now).contracts)
-            (first-at dredger self.old.rule (data_of deck.now).contracts (member rest.now)) result }
+            (first_at dredger self.old.rule (data_of deck.now).contracts (member rest.now)) result }
         ensures ready { Ready (data_of deck.now).contracts (member rest.now) self.new }
         ensures rule { self.new.rule ≡ self.old.rule }
     {

@@ -3,5 +3,5 @@ use Rattle.std.proofs.Common.{◌≤◌, length, arith}
 use Rattle.strip.specs.declared.row.Strip.{Strip}
 use Rattle.strip.specs.Rows.{items, places}
 
-pub items-le-places : {X : Type 0} (s : Strip X) → length (items s) ≤ places s
-items-le-places s = omega (arith, s.counted, s.count_inside)
+pub items_le_places : {X : Type 0} (s : Strip X) → length (items s) ≤ places s
+items_le_places s = omega (arith, s.counted, s.count_inside)

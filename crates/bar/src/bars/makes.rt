@@ -2,8 +2,8 @@
 ghost use Rattle.std.specs.Prelude.{◌≡◌, ℕ, ◌<◌, ◌≤◌, length, take, if◌then◌else◌, nat_eq};
 ghost use Rattle.deck.specs.Contents.{data_of};
 ghost use Rattle.deck.specs.Facts.{BarTrainees};
-ghost use Rattle.bar.specs.Bars.{Spans, spanAt, widened};
-ghost use Rattle.rules.specs.Contents.{barAt};
+ghost use Rattle.bar.specs.Bars.{Spans, span_at, widened};
+ghost use Rattle.rules.specs.Contents.{bar_at};
 
 use crate::bars::Bars;
 use crate::span::Span;
@@ -27,8 +27,8 @@ fn copied(bars: &[Barring]) -> [Barring; 128]
 fn widen(spans: &mut [Span; 256], trainee: u16, i: u8)
     requires { (trainee < 256) × (i < 128) }
     ensures wide { length spans.new ≡ 256 }
-    ensures widens { (t : ℕ) → spanAt spans.new t
-        ≡ (if nat_eq t trainee then widened (spanAt spans.old t) i else spanAt spans.old t) }
+    ensures widens { (t : ℕ) → span_at spans.new t
+        ≡ (if nat_eq t trainee then widened (span_at spans.old t) i else span_at spans.old t) }
 {
     let t = trainee as usize;
     if spans[t].to == 0 {
@@ -39,7 +39,7 @@ fn widen(spans: &mut [Span; 256], trainee: u16, i: u8)
 
 // A span for each trainee.
 fn spans_of(bars: &[Barring]) -> [Span; 256]
-    requires { (length bars.now ≤ 128) × (((k : ℕ) → k < length bars.now → (barAt bars.now k).trainee < 256)) }
+    requires { (length bars.now ≤ 128) × (((k : ℕ) → k < length bars.now → (bar_at bars.now k).trainee < 256)) }
     ensures wide { length result ≡ 256 }
     ensures spans { Spans result bars.now (length bars.now) }
 {

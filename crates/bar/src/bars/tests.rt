@@ -1,7 +1,7 @@
 // Is a contract barred?
 ghost use Rattle.std.specs.Prelude.{◌≡◌, ◌<◌, take};
-ghost use Rattle.bar.specs.Bars.{bars, hits, spanAt};
-ghost use Rattle.rules.specs.Contents.{barAt};
+ghost use Rattle.bar.specs.Bars.{bars, hits, span_at};
+ghost use Rattle.rules.specs.Contents.{bar_at};
 
 use crate::bars::Bars;
 use crate::span::Span;
@@ -11,7 +11,7 @@ impl Bars {
     // Does the i-th pair bar the contract?
     fn bars_by(&self, i: u8, c: &Contract) -> bool
         requires { i < self.now.count }
-        ensures { result ≡ hits (barAt self.now.pairs i) c.now }
+        ensures { result ≡ hits (bar_at self.now.pairs i) c.now }
     {
         let p = self.pairs[i as usize];
         p.trainee == c.trainee && p.dredger == c.dredger
@@ -19,7 +19,7 @@ impl Bars {
 
     // The span of a trainee; one that no bar can name has none.
     fn span_of(&self, trainee: u16) -> Span
-        ensures { result ≡ spanAt self.now.spans trainee }
+        ensures { result ≡ span_at self.now.spans trainee }
     {
         if trainee < 256 {
             self.spans[trainee as usize]

@@ -1,6 +1,6 @@
 // Writing fields and lines.
 ghost use Rattle.std.specs.Prelude.{◌≡◌, ◌+◌, ◌≤◌, [], length, decimal};
-ghost use Rattle.listing.specs.Lines.{layerName, name_at, nameLine, numberField, refusalLine};
+ghost use Rattle.listing.specs.Lines.{layer_name, name_at, line_of_name, number_field, line_of_refusal};
 ghost use Rattle.listing.specs.Print.{Writes, written};
 
 use crate::printer::Printer;
@@ -39,7 +39,7 @@ impl Printer {
 
     // A number as one more field of a line: a blank before it.
     pub fn field(&mut self, n: usize) -> Result<(), AllocError>
-        ensures { Writes result self.old self.new (numberField n) }
+        ensures { Writes result self.old self.new (number_field n) }
     {
         self.put(b" ")?;
         self.number(n)?;
@@ -55,7 +55,7 @@ impl Printer {
     }
 
     fn layer(&mut self, layer: Layer) -> Result<(), AllocError>
-        ensures { Writes result self.old self.new (layerName layer) }
+        ensures { Writes result self.old self.new (layer_name layer) }
     {
         match layer {
             Layer::Bytes => self.put(b"bytes"),
@@ -67,7 +67,7 @@ impl Printer {
     // A name and a number.
     pub fn name_line(&mut self, deck: &[u8], place: usize, n: usize) -> Result<(), AllocError>
         requires { place + 8 ≤ length deck.now }
-        ensures { Writes result self.old self.new (nameLine deck.now place n) }
+        ensures { Writes result self.old self.new (line_of_name deck.now place n) }
     {
         self.put(b"T ")?;
         self.name(deck, place)?;
@@ -77,7 +77,7 @@ impl Printer {
     }
 
     pub fn refusal_line(&mut self, x: Refusal) -> Result<(), AllocError>
-        ensures { Writes result self.old self.new (refusalLine x) }
+        ensures { Writes result self.old self.new (line_of_refusal x) }
     {
         self.put(b"REFUSED")?;
         self.field(x.number as usize)?;

@@ -1,5 +1,5 @@
-use Rattle.moves.proofs.Bags.{those-counted}
+use Rattle.moves.proofs.Bags.{those_counted}
 use Rattle.moves.proofs.those_are_counted.Goals as goal
 
 pub returns : goal.returns
-returns c = those-counted
+returns c = those_counted

@@ -1,6 +1,6 @@
 // One contract more in the sums.
 ghost use Rattle.std.specs.Prelude.{◌≡◌, ◌+◌, ◌<◌, if◌then◌else◌, slice_set};
-ghost use Rattle.quota.specs.Climb.{Climbed, below-cap, parent_in, sum_of};
+ghost use Rattle.quota.specs.Climb.{Climbed, below_cap, parent_in, sum_of};
 
 use crate::quota::Quota;
 
@@ -8,7 +8,7 @@ impl Quota {
     // Takes a place in group v, if it has one left.
     fn take_place(&self, sums: &mut [u32; 64], v: u8) -> bool
         requires { v < 64 }
-        ensures took { result ≡ below-cap self.now.rows sums.old v }
+        ensures took { result ≡ below_cap self.now.rows sums.old v }
         ensures sums { sums.new ≡ (if result then slice_set sums.old v (sum_of sums.old v + 1) else sums.old) }
     {
         let v = v as usize;

@@ -1,6 +1,6 @@
 // Why a contract is not kept.
 ghost use Rattle.quota.specs.Answer.{pair_of};
-ghost use Rattle.quota.specs.Caps.{quota-reason};
+ghost use Rattle.quota.specs.Caps.{quota_reason};
 ghost use Rattle.std.specs.Prelude.{◌≡◌};
 ghost use Rattle.std.proofs.Common.{rules, arith};
 
@@ -21,7 +21,7 @@ fn pair_of(stop: Option<u8>) -> (u8, u16)
 }
 
 impl Explain for Quota {
-    ghost reason = { λ s t X k. quota-reason s.rows t.contracts X k };
+    ghost reason = { λ s t X k. quota_reason s.rows t.contracts X k };
 
     ghost further = { first_of (Prim.search rules, Prim.grind (arith, Self.row.coded.inj)) };
 

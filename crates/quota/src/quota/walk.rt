@@ -2,7 +2,7 @@
 ghost use Rattle.std.specs.Prelude.{◌≡◌, ◌<◌, length};
 ghost use Rattle.deck.specs.Contents.{data_of};
 ghost use Rattle.quota.specs.Climb.{Climbed};
-ghost use Rattle.quota.specs.Walk.{Found, Numbers, Walked, met-with};
+ghost use Rattle.quota.specs.Walk.{Found, Numbers, Walked, met_with};
 
 use crate::quota::Quota;
 use board::unfit::Unfit;
@@ -13,7 +13,7 @@ use rules::table::Contract;
 // Turns to a dredger: the sums of another begin again.
 fn turn_to(new: u8, dredger: &mut u8, sums: &mut [u32; 64])
     ensures dredger { dredger.new ≡ new }
-    ensures sums { sums.new ≡ met-with dredger.old new sums.old }
+    ensures sums { sums.new ≡ met_with dredger.old new sums.old }
 {
     if *dredger != new {
         *dredger = new;
@@ -26,7 +26,7 @@ impl Quota {
     fn count(&self, contract: &Contract, dredger: &mut u8, sums: &mut [u32; 64]) -> Option<u8>
         requires { contract.now.group < 64 }
         ensures dredger { dredger.new ≡ contract.now.dredger }
-        ensures climbed { Climbed self.now.rows (met-with dredger.old contract.now.dredger sums.old)
+        ensures climbed { Climbed self.now.rows (met_with dredger.old contract.now.dredger sums.old)
             contract.now.group sums.new result }
     {
         turn_to(contract.dredger, dredger, sums);

@@ -2,8 +2,8 @@
 ghost use Rattle.std.specs.Prelude.{◌≡◌, ℕ, ◌<◌, length, slice_index, slice_set};
 ghost use Rattle.deck.specs.Contents.{data_of};
 ghost use Rattle.deck.specs.Facts.{ReservesApart};
-ghost use Rattle.reserve.specs.Reserves.{seats-for};
-ghost use Rattle.rules.specs.Contents.{reserveAt};
+ghost use Rattle.reserve.specs.Reserves.{seats_for};
+ghost use Rattle.rules.specs.Contents.{reserve_at};
 
 use crate::reserves::Reserves;
 use deck::deck::Deck;
@@ -20,9 +20,9 @@ fn give(places: &mut [u16; 64], entry: &Reservation)
 
 // The places of each dredger, 0 where none are given.
 fn places_of(reserves: &[Reservation]) -> [u16; 64]
-    requires { (ReservesApart reserves.now) × (((k : ℕ) → k < length reserves.now → (reserveAt reserves.now k).dredger < 64)) }
+    requires { (ReservesApart reserves.now) × (((k : ℕ) → k < length reserves.now → (reserve_at reserves.now k).dredger < 64)) }
     ensures whole { length result ≡ 64 }
-    ensures places { (v : ℕ) → slice_index result v ≡ seats-for reserves.now v }
+    ensures places { (v : ℕ) → slice_index result v ≡ seats_for reserves.now v }
 {
     let mut places = [0u16; 64];
     for i in 0..reserves.len() {
@@ -33,7 +33,7 @@ fn places_of(reserves: &[Reservation]) -> [u16; 64]
 
 impl Reserves {
     pub fn of(deck: &Deck) -> Reserves
-        ensures { (v : ℕ) → slice_index result.places v ≡ seats-for (data_of deck.now).reserves v }
+        ensures { (v : ℕ) → slice_index result.places v ≡ seats_for (data_of deck.now).reserves v }
     {
         Reserves {
             places: places_of(deck.reserves()),

@@ -2,12 +2,12 @@
 ghost use Rattle.std.specs.Prelude.{◌≡◌, ℕ, ◌+◌, ◌<◌, ◌≤◌, true, length, if◌then◌else◌, ◌==◌, nat_eq, nat_lt, slice_index};
 ghost use Rattle.board.specs.Marks.{member};
 ghost use Rattle.deck.specs.Contents.{data_of};
-ghost use Rattle.reserve.specs.Reserves.{entitledOf, left-or-out, reserve, reserved};
+ghost use Rattle.reserve.specs.Reserves.{entitled_of, left_or_out, reserve, reserved};
 ghost use Rattle.matching.specs.Choices.{first};
 ghost use Rattle.matching.specs.Sets.{common};
 ghost use Rattle.ranking.specs.Rank.{above};
 ghost use Rattle.ranking.specs.Rows.{Front};
-ghost use Rattle.rules.specs.Contents.{contractAt};
+ghost use Rattle.rules.specs.Contents.{contract_at};
 
 use crate::reserves::Reserves;
 use deck::deck::Deck;
@@ -29,7 +29,7 @@ impl Reserves {
     // Writes the contracts of the list that may take a reserved place.
     fn entitle(&self, contracts: &[Contract], marks: &[u8], out: &mut [u8])
         requires { (length marks.now ≡ length contracts.now) × (length out.old ≡ length contracts.now) }
-        ensures { member out.new ≡ common (member marks.now) (entitledOf self.now.places contracts.now) }
+        ensures { member out.new ≡ common (member marks.now) (entitled_of self.now.places contracts.now) }
     {
         for k in 0..marks.len() {
             out[k] = if marks[k] != 0 && self.entitles(&contracts[k]) {
@@ -42,11 +42,11 @@ impl Reserves {
 
     // Takes contract k out, unless a place is left for it after those that were seen.
     fn settle(&self, contracts: &[Contract], k: u16, seen: &mut [u16; 64], taken: &mut [u8])
-        requires { (k < length contracts.now) × ((length taken.old ≡ length contracts.now) × (((contractAt contracts.now k).dredger < 64) × (slice_index seen.old (contractAt contracts.now k).dredger ≤ 2048))) }
+        requires { (k < length contracts.now) × ((length taken.old ≡ length contracts.now) × (((contract_at contracts.now k).dredger < 64) × (slice_index seen.old (contract_at contracts.now k).dredger ≤ 2048))) }
         ensures seen { (v : ℕ) → slice_index seen.new v
-            ≡ slice_index seen.old v + (if nat_eq (contractAt contracts.now k).dredger v then 1 else 0) }
-        ensures taken { (j : ℕ) → slice_index taken.new j ≡ left-or-out
-            (nat_lt (slice_index seen.old (contractAt contracts.now k).dredger) (reserve self.now.places contracts.now k))
+            ≡ slice_index seen.old v + (if nat_eq (contract_at contracts.now k).dredger v then 1 else 0) }
+        ensures taken { (j : ℕ) → slice_index taken.new j ≡ left_or_out
+            (nat_lt (slice_index seen.old (contract_at contracts.now k).dredger) (reserve self.now.places contracts.now k))
             (j == k) (slice_index taken.old j) }
     {
         let dredger = contracts[k as usize].dredger;
@@ -57,7 +57,7 @@ impl Reserves {
 
     // Takes out the contracts that have as many above them as there are places, or more.
     fn cut(&self, contracts: &[Contract], row: &[u16; 2048], count: usize, taken: &mut [u8])
-        requires { (Front 0 contracts.now (member taken.old) row.now count) × ((length taken.old ≡ length contracts.now) × (((k : ℕ) → member taken.old k ≡ true → (contractAt contracts.now k).dredger < 64))) }
+        requires { (Front 0 contracts.now (member taken.old) row.now count) × ((length taken.old ≡ length contracts.now) × (((k : ℕ) → member taken.old k ≡ true → (contract_at contracts.now k).dredger < 64))) }
         ensures { member taken.new
             ≡ first (length contracts.now) (λ j. true) (above contracts.now) (reserve self.now.places contracts.now)
             (member taken.old) }

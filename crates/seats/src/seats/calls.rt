@@ -1,8 +1,8 @@
 // Making a board of seats, and seating.
 ghost use Rattle.std.specs.Prelude.{◌≡◌, ◌<◌, ◌≤◌, length, take};
 ghost use Rattle.deck.specs.Contents.{data_of};
-ghost use Rattle.rules.specs.Contents.{seatAt};
-ghost use Rattle.seats.specs.Best.{All-follow};
+ghost use Rattle.rules.specs.Contents.{seat_at};
+ghost use Rattle.seats.specs.Best.{AllFollow};
 ghost use Rattle.seats.specs.Seating.{Leaves};
 
 use crate::lineups::Lineups;
@@ -37,7 +37,7 @@ impl Seats {
 
     // What one seat takes, in plain words.
     pub fn follow_their_rule(&self) -> bool
-        ensures { All-follow self.now.seats self.now.count }
+        ensures { AllFollow self.now.seats self.now.count }
     {
         true
     }
@@ -45,7 +45,7 @@ impl Seats {
     // The seat at place i of the list.
     fn seat(&self, i: usize) -> Seat
         requires { i < self.now.count }
-        ensures { result ≡ seatAt self.now.seats i }
+        ensures { result ≡ seat_at self.now.seats i }
     {
         self.seats[i]
     }

@@ -1,7 +1,7 @@
 use Rattle.std.proofs.Common.{length}
 use Rattle.deck.specs.Contents.{data_of, bytes_of}
 use Rattle.board.specs.Decks.{OfDeck}
-use Rattle.guest.proofs.Repeating.{chosen-twice}
+use Rattle.guest.proofs.Repeating.{chosen_twice}
 use Rattle.guest.proofs.laws.choose_again.Goals as goal
 
 pub returns : goal.returns
@@ -11,5 +11,5 @@ returns g c xs h =
     let t = data_of d in
     let o : OfDeck t = (bytes_of d, d.lawful) in
     let m = g.met.B.Board in
-    chosen-twice (g.B.Board.kept b t) (length t.contracts) (record { part = m.part b t o; substitutable = m.substitutable b t o; irrelevant = m.irrelevant b t o })
+    chosen_twice (g.B.Board.kept b t) (length t.contracts) (record { part = m.part b t o; substitutable = m.substitutable b t o; irrelevant = m.irrelevant b t o })
     xs c.args.marks.now c.choose.new.marks c.choose.result h c.choose.ensures

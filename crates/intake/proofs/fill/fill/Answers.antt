@@ -1,9 +1,9 @@
 use Rattle.std.proofs.Common.{◌≡◌, ℕ, ◌≤◌, length, sym, refl, ap, ◌∙◌, subst, arith}
 use Rattle.std.proofs.lemmas.Result.{err_from_is_err_and, MatchResult-weaker}
-use Rattle.rules.specs.Contents.{contentOf}
+use Rattle.rules.specs.Contents.{content_of}
 use Rattle.intake.specs.Fillings.{tables}
 use Rattle.intake.specs.Book.{too_long, EndNo}
-use Rattle.intake.proofs.Turns.{few_past, led-past, refused, again, closed, not-closed}
+use Rattle.intake.proofs.Turns.{few_past, led_past, refused, again, closed, not_closed}
 use Rattle.intake.proofs.fill.fill.Goals as goal
 
 pub returns-then-bytes-gt-LONGEST : goal.returns-then-bytes-gt-LONGEST
@@ -16,19 +16,19 @@ next-entry-requires c =
     let l = ap length same in
     record {
       place = omega (arith, c.loop-entry.reader.inside);
-      few = few_past st (contentOf c.firsts-past.result) c.firsts-past.ensures;
-      led = led-past st (contentOf c.firsts-past.result) c.firsts-past.ensures;
+      few = few_past st (content_of c.firsts-past.result) c.firsts-past.ensures;
+      led = led_past st (content_of c.firsts-past.result) c.firsts-past.ensures;
     }
 
 pub returns-in-err-entry : goal.returns-in-err-entry
 returns-in-err-entry c =
     let p = err_from_is_err_and c.from-residual.result c.from-residual.ensures.1 in
-    rw (p.1, p.2) (refused c.loop-entry.invariant.1 (contentOf c.firsts-past.result) c.firsts-past.ensures (omega arith) c.in-err-entry.field-0.0 c.in-err-entry.ensures.cases)
+    rw (p.1, p.2) (refused c.loop-entry.invariant.1 (content_of c.firsts-past.result) c.firsts-past.ensures (omega arith) c.in-err-entry.field-0.0 c.in-err-entry.ensures.cases)
 
 pub returns-in-End : goal.returns-in-End
 returns-in-End c =
     let st = c.loop-entry.invariant.1 in
-    let x = contentOf c.firsts-past.result in
+    let x = content_of c.firsts-past.result in
     let e = c.firsts-past.ensures in
     let h = c.in-ok-entry.ensures.cases in
     let short : length c.args.bytes.now ≤ 15363 = omega arith in
@@ -36,13 +36,13 @@ returns-in-End c =
     let l = ap length same in
     MatchResult-weaker c.close.result c.close.ensures
     (λ k g. closed st x e short c.in-End.count c.next-entry.new.reader.place c.in-ok-entry.entry c.in-ok-entry.next h c.in-End.is k (g.0, g.1, sym c.place.ensures ∙ g.2))
-    (λ f g. not-closed st x e short c.in-End.count c.next-entry.new.reader.place c.in-ok-entry.entry c.in-ok-entry.next h c.in-End.is (omega (arith, c.next-entry.new.reader.inside)) f
+    (λ f g. not_closed st x e short c.in-End.count c.next-entry.new.reader.place c.in-ok-entry.entry c.in-ok-entry.next h c.in-End.is (omega (arith, c.next-entry.new.reader.inside)) f
     (subst (λ (y : ℕ). EndNo c.in-End.count c.loop-entry.had.wishes y c.next-entry.new.reader.place (length c.args.bytes.now) f) c.place-place.ensures
     (subst (λ (y : ℕ). EndNo c.in-End.count c.loop-entry.had.wishes c.place-place.result y (length c.args.bytes.now) f) c.place.ensures g)))
 
 pub loop-entry-preserved : goal.loop-entry-preserved
 loop-entry-preserved c =
-    again c.loop-entry.invariant.1 (contentOf c.firsts-past.result) c.firsts-past.ensures c.next-entry.new.reader.bytes.now c.next-entry.new.reader.place
+    again c.loop-entry.invariant.1 (content_of c.firsts-past.result) c.firsts-past.ensures c.next-entry.new.reader.bytes.now c.next-entry.new.reader.place
     c.in-ok-entry.entry c.in-ok-entry.next c.store-had.result
     (tables c.store-had.new.groups c.store-had.new.seats c.store-had.new.reserves c.store-had.new.trainees c.store-had.new.contracts c.store-had.new.bars)
     c.in-ok-entry.ensures.same c.in-ok-entry.ensures.cases c.in-default.not-End c.store-had.ensures.counts c.store-had.ensures.entries

@@ -1,12 +1,12 @@
 use Rattle.std.proofs.Common.{vec_items}
-use Rattle.rules.specs.Contents.{contentOf}
+use Rattle.rules.specs.Contents.{content_of}
 use Rattle.deck.specs.Contents.{bytes_of, data_of}
 use Rattle.listing.specs.Print.{written}
-use Rattle.listing.proofs.Outcomes.{dealt-text}
+use Rattle.listing.proofs.Outcomes.{dealt_text}
 use Rattle.listing.proofs.report.dealt.Goals as goal
 
 pub returns : goal.returns
 returns c =
     let b = c.in-default.ensures in
-    dealt-text c.args.bytes.now (bytes_of c.bind.new.self) (vec_items c.finish.result) (written c.new-p.result) (written c.deck-text.new.p)
-    c.args.counts (contentOf c.args.tables) (data_of c.bind.new.self) c.requires b.1 b.2 c.new-p.ensures c.in-ok-deck-text.ensures c.finish.ensures
+    dealt_text c.args.bytes.now (bytes_of c.bind.new.self) (vec_items c.finish.result) (written c.new-p.result) (written c.deck-text.new.p)
+    c.args.counts (content_of c.args.tables) (data_of c.bind.new.self) c.requires b.1 b.2 c.new-p.ensures c.in-ok-deck-text.ensures c.finish.ensures

@@ -1,5 +1,5 @@
 use Rattle.std.proofs.Common.{◌≡◌, ℕ, List, length, ap}
-use Rattle.listing.specs.Lines.{numberField}
+use Rattle.listing.specs.Lines.{number_field}
 use Rattle.listing.proofs.Chain.{then, at_length}
 use Rattle.listing.proofs.report.deck_line.Goals as goal
 

@@ -1,6 +1,6 @@
 use Rattle.std.proofs.Common.{rules}
-use Rattle.listing.proofs.Chain.{count-more}
+use Rattle.listing.proofs.Chain.{count_more}
 use Rattle.listing.proofs.report.trainee_lines.Goals as goal
 
 pub loop-k-preserved : goal.loop-k-preserved
-loop-k-preserved c = let e = c.in-ok-trainee-line.ensures in search (rules, count-more)
+loop-k-preserved c = let e = c.in-ok-trainee-line.ensures in search (rules, count_more)

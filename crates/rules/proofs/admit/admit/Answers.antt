@@ -2,9 +2,9 @@ use Rattle.std.proofs.Common.{◌≡◌, ℕ, true, List, drop, subst}
 use Rattle.std.proofs.lemmas.Result.{err_from_is_err_and}
 use Rattle.format.specs.declared.record.Kind.{Kind}
 use Rattle.format.specs.Layout.{kind, Starts}
-use Rattle.format.proofs.Unique.{begun, one-kind}
+use Rattle.format.proofs.Unique.{begun, one_kind}
 use Rattle.rules.specs.Order.{may}
-use Rattle.rules.specs.Contents.{contentOf}
+use Rattle.rules.specs.Contents.{content_of}
 use Rattle.rules.specs.Rules.{RuleNo}
 use Rattle.rules.proofs.Faults.{broken}
 use Rattle.rules.proofs.admit.admit.Goals as goal
@@ -15,10 +15,10 @@ returns-in-err-judge c =
     let rest : List ℕ = drop c.args.reader.now.place c.args.reader.now.bytes.now in
     let more : List ℕ = drop c.take.new.self.place c.args.reader.now.bytes.now in
     let t : Starts rest c.in-ok-rec.rec more = c.in-ok-rec.ensures.cases.starts in
-    let k = one-kind rest c.in-ok-kind.field-0 (kind c.in-ok-rec.rec) c.in-ok-kind.ensures (begun rest c.in-ok-rec.rec more t).0 in
+    let k = one_kind rest c.in-ok-kind.field-0 (kind c.in-ok-rec.rec) c.in-ok-kind.ensures (begun rest c.in-ok-rec.rec more t).0 in
     let m = subst (λ (j : Kind). may c.args.section j ≡ true) k c.in-ok-next.ensures.0 in
-    let h = subst (λ (n : ℕ). RuleNo (contentOf c.args.past) c.in-ok-rec.rec n c.in-err-judge.field-0.0) c.place-place.ensures c.in-err-judge.ensures in
+    let h = subst (λ (n : ℕ). RuleNo (content_of c.args.past) c.in-ok-rec.rec n c.in-err-judge.field-0.0) c.place-place.ensures c.in-err-judge.ensures in
     rw (p.1, p.2) (record {
       same = c.in-ok-rec.ensures.same;
-      cases = broken c.args.section (contentOf c.args.past) rest c.args.reader.now.place c.in-ok-rec.rec more c.in-err-judge.field-0.0 t m h;
+      cases = broken c.args.section (content_of c.args.past) rest c.args.reader.now.place c.in-ok-rec.rec more c.in-err-judge.field-0.0 t m h;
     })

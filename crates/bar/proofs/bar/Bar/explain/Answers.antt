@@ -1,9 +1,9 @@
 use Rattle.std.proofs.Common.{◌≡◌, ℕ, true, false, List, length, take, refl, ap}
 use Rattle.deck.specs.Contents.{data_of, bytes_of}
 use Rattle.rules.specs.declared.table.Contract.{Contract}
-use Rattle.rules.specs.Contents.{contractAt}
+use Rattle.rules.specs.Contents.{contract_at}
 use Rattle.board.specs.Marks.{member}
-use Rattle.board.proofs.Through.{explained-without, explained-struck, read_at, minus-read, length_three}
+use Rattle.board.proofs.Through.{explained_without, explained_struck, read_at, minus_read, length_three}
 use Rattle.matching.specs.Sets.{Set, minus}
 use Rattle.bar.specs.Bars.{barred}
 use Rattle.bar.proofs.Barring.{said_of}
@@ -20,7 +20,7 @@ returns-then-bars g c =
     let cs = c.contracts-contracts.result.now in
     let b : barred ps t.contracts k ≡ true =
     read_at (barred ps cs) (barred ps t.contracts) k true (ap (λ (z : List Contract). barred ps z) c.contracts-contracts.ensures) c.if-bars.ensures in
-    let e = explained-struck (g.C.Board.kept s.below t) (g.C.Explain.reason s.below t) (barred ps t.contracts) (λ j. (4, (contractAt t.contracts j).dredger))
+    let e = explained_struck (g.C.Board.kept s.below t) (g.C.Explain.reason s.below t) (barred ps t.contracts) (λ j. (4, (contract_at t.contracts j).dredger))
     (length t.contracts) xs k (g.met.C.Board.part s.below t (bytes_of d, d.lawful)) c.requires.0 c.requires.1.0 c.requires.1.1 b in
     (e.0, e.1, said_of cs t.contracts k _ _ c.barred-pair.ensures c.contracts-contracts.ensures e.2)
 
@@ -35,9 +35,9 @@ returns g c =
     let b : barred ps t.contracts k ≡ false =
     read_at (barred ps cs) (barred ps t.contracts) k false (ap (λ (z : List Contract). barred ps z) c.contracts-contracts.ensures) c.if-bars.ensures in
     let m : member c.strike.new.marks ≡ minus (member xs) (barred ps t.contracts) =
-    minus-read (member c.strike.new.marks) (member c.copy-from-slice.new.self) (barred ps cs) (member xs) (barred ps t.contracts) c.strike.ensures
+    minus_read (member c.strike.new.marks) (member c.copy-from-slice.new.self) (barred ps cs) (member xs) (barred ps t.contracts) c.strike.ensures
     (ap member c.copy-from-slice.ensures.after) (ap (λ (z : List Contract). barred ps z) c.contracts-contracts.ensures) in
-    explained-without (g.C.Board.kept s.below t) (g.C.Explain.reason s.below t) (barred ps t.contracts) (λ j. (4, (contractAt t.contracts j).dredger))
+    explained_without (g.C.Board.kept s.below t) (g.C.Explain.reason s.below t) (barred ps t.contracts) (λ j. (4, (contract_at t.contracts j).dredger))
     (length t.contracts) xs c.strike.new.marks k c.why.result c.requires.0
     (length_three c.strike.new.marks c.copy-from-slice.new.self xs (length t.contracts) c.strike.auto.marks c.copy-from-slice.ensures.after c.requires.0)
     c.requires.1.0 m c.requires.1.1 b c.why.ensures

@@ -2,7 +2,7 @@ use Rattle.std.proofs.Common.{◌≡◌, List, length, take, refl, ap}
 use Rattle.deck.specs.Contents.{data_of}
 use Rattle.rules.specs.declared.table.Contract.{Contract}
 use Rattle.board.specs.Marks.{member}
-use Rattle.board.proofs.Through.{chosen-without, minus-read}
+use Rattle.board.proofs.Through.{chosen-without, minus_read}
 use Rattle.bar.specs.Bars.{barred}
 use Rattle.bar.proofs.bar.Bar.pass_on.Goals as goal
 
@@ -14,6 +14,6 @@ returns g c =
     let ps = take s.bars.count s.bars.pairs in
     chosen-without (g.C.Board.kept s.below t) (barred ps t.contracts) (length t.contracts) xs c.strike.new.marks c.choose.new.marks c.choose.result
     c.requires c.strike.auto.marks
-    (minus-read (member c.strike.new.marks) (member xs) (barred ps c.contracts.result.now) (member xs) (barred ps t.contracts) c.strike.ensures refl
+    (minus_read (member c.strike.new.marks) (member xs) (barred ps c.contracts.result.now) (member xs) (barred ps t.contracts) c.strike.ensures refl
     (ap (λ (cs : List Contract). barred ps cs) c.contracts.ensures))
     c.choose.ensures

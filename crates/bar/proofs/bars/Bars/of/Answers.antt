@@ -1,14 +1,14 @@
 use Rattle.std.proofs.Common.{◌≡◌, ℕ, ◌<◌, ◌≤◌, length, sym, ap, ◌∙◌, arith}
-use Rattle.rules.specs.Contents.{barAt, zeroBarring}
-use Rattle.bar.specs.Bars.{spanAt}
-use Rattle.bar.proofs.Barring.{getD-begins}
+use Rattle.rules.specs.Contents.{bar_at, zero_barring}
+use Rattle.bar.specs.Bars.{span_at}
+use Rattle.bar.proofs.Barring.{get_or_begins}
 use Rattle.bar.proofs.bars.Bars.of.Goals as goal
 
 pub invariant-of-result : goal.invariant-of-result
 invariant-of-result c =
     let bs = c.bars-bars.result.now in
     let ss = c.spans-of.result in
-    let same : (i : ℕ) → i < length bs → barAt c.copied.result i ≡ barAt bs i = getD-begins zeroBarring bs c.copied.result c.copied.ensures.front in
+    let same : (i : ℕ) → i < length bs → bar_at c.copied.result i ≡ bar_at bs i = get_or_begins zero_barring bs c.copied.result c.copied.ensures.front in
     let few : length bs ≤ 128 = omega (arith, c.args.deck.now.few_bars, ap length c.bars-bars.ensures) in (
       few,
       (
@@ -16,9 +16,9 @@ invariant-of-result c =
         (
           c.spans-of.ensures.wide,
           (
-            (λ i l. let e = ap (λ b. (spanAt ss b.trainee).from) (same i l) in let h = c.spans-of.ensures.spans.from i l in omega arith),
+            (λ i l. let e = ap (λ b. (span_at ss b.trainee).from) (same i l) in let h = c.spans-of.ensures.spans.from i l in omega arith),
             (
-              (λ i l. let e = ap (λ b. (spanAt ss b.trainee).to) (same i l) in let h = c.spans-of.ensures.spans.to i l in omega arith),
+              (λ i l. let e = ap (λ b. (span_at ss b.trainee).to) (same i l) in let h = c.spans-of.ensures.spans.to i l in omega arith),
               (c.spans-of.ensures.spans.short, tt),
             ),
           ),

@@ -1,11 +1,11 @@
-use Rattle.rules.specs.Contents.{contentOf}
-use Rattle.deck.proofs.Deals.{dealt-sound, dealt-few}
+use Rattle.rules.specs.Contents.{content_of}
+use Rattle.deck.proofs.Deals.{dealt_sound, dealt_few}
 use Rattle.deck.proofs.deck.Deck.made.Goals as goal
 
 pub invariant-of-result : goal.invariant-of-result
 invariant-of-result c =
-    let s = dealt-sound c.args.bytes.now (contentOf c.args.entries) c.requires in
-    let f = dealt-few c.args.bytes.now (contentOf c.args.entries) c.requires in (
+    let s = dealt_sound c.args.bytes.now (content_of c.args.entries) c.requires in
+    let f = dealt_few c.args.bytes.now (content_of c.args.entries) c.requires in (
       ∣ c.requires ∣₁,
       (
         f.groups,
@@ -38,13 +38,13 @@ invariant-of-result c =
                                   (
                                     s.reserves,
                                     (
-                                      s.reserves-apart,
+                                      s.reserves_apart,
                                       (
                                         (λ t lt. (s.trainees t lt).0),
                                         (
                                           (λ t i h. (s.trainees t h.0).1 i h.1),
                                           (
-                                            s.lots-apart,
+                                            s.lots_apart,
                                             (
                                               (λ k lt. (s.contracts k lt).trainee),
                                               (
@@ -60,12 +60,12 @@ invariant-of-result c =
                                                         (
                                                           s.rising,
                                                           (
-                                                            s.wishes-apart,
+                                                            s.wishes_apart,
                                                             (
                                                               (λ k lt. (s.bars k lt).trainee),
                                                               (
                                                                 (λ k lt. (s.bars k lt).given),
-                                                                (s.bars-apart, tt),
+                                                                (s.bars_apart, tt),
                                                               ),
                                                             ),
                                                           ),

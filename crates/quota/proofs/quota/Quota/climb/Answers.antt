@@ -1,8 +1,8 @@
-use Rattle.quota.proofs.Climbs.{climbing-none, turn-full, turn-top, turn_up}
+use Rattle.quota.proofs.Climbs.{climbing_none, turn_full, turn_top, turn_up}
 use Rattle.quota.proofs.quota.Quota.climb.Goals as goal
 
 pub loop-v-init : goal.loop-v-init
-loop-v-init c = climbing-none c.args.self.now.rows c.args.sums.now c.args.group c.told-sums c.requires
+loop-v-init c = climbing_none c.args.self.now.rows c.args.sums.now c.args.group c.told-sums c.requires
 
 pub loop-v-preserved : goal.loop-v-preserved
 loop-v-preserved c =
@@ -11,10 +11,10 @@ loop-v-preserved c =
 
 pub returns-in-None : goal.returns-in-None
 returns-in-None c =
-    turn-top c.args.self.now.rows c.args.self.now.earlier c.args.sums.now c.loop-v.sums c.take-place.new.sums c.args.group c.loop-v.v
+    turn_top c.args.self.now.rows c.args.self.now.earlier c.args.sums.now c.loop-v.sums c.take-place.new.sums c.args.group c.loop-v.v
     c.take-place.result c.loop-v.invariant c.take-place.ensures.took c.take-place.ensures.sums c.loop-v-test.true c.in-None.ensures
 
 pub returns : goal.returns
 returns c =
-    turn-full c.args.self.now.rows c.args.self.now.earlier c.args.sums.now c.loop-v.sums c.take-place.new.sums c.args.group c.loop-v.v
+    turn_full c.args.self.now.rows c.args.self.now.earlier c.args.sums.now c.loop-v.sums c.take-place.new.sums c.args.group c.loop-v.v
     c.take-place.result c.loop-v.invariant c.take-place.ensures.took c.take-place.ensures.sums c.loop-v-test.false

@@ -1,10 +1,10 @@
 use Rattle.board.specs.Marks.{member}
-use Rattle.quota.proofs.Walks.{front-numbers, front-told}
+use Rattle.quota.proofs.Walks.{front_numbers, front-told}
 use Rattle.quota.proofs.quota.Quota.find_stops.Goals as goal
 
 pub walk-requires : goal.walk-requires
 walk-requires c =
-    front-numbers c.args.self.now.rows c.args.deck.now.contracts.now (member c.args.marks.now) c.line-up.new.row c.in-ok-count.count
+    front_numbers c.args.self.now.rows c.args.deck.now.contracts.now (member c.args.marks.now) c.line-up.new.row c.in-ok-count.count
     c.in-ok-count.ensures.1
 
 pub returns : goal.returns

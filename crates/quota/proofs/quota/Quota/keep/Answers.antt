@@ -1,11 +1,11 @@
 use Rattle.std.proofs.Common.{◌∙◌}
-use Rattle.quota.proofs.Answering.{kept-are}
+use Rattle.quota.proofs.Answering.{kept_are}
 use Rattle.quota.proofs.quota.Quota.keep.Goals as goal
 
 pub returns : goal.returns
 returns c = (
   c.in-ok-find-stops.ensures.0,
   c.keep-unstopped.ensures
-      ∙ kept-are c.args.self.now.rows c.args.deck.now.contracts.now c.args.marks.now c.find-stops.new.stops
+      ∙ kept_are c.args.self.now.rows c.args.deck.now.contracts.now c.args.marks.now c.find-stops.new.stops
       c.in-ok-find-stops.ensures.0 c.in-ok-find-stops.ensures.1,
 )

@@ -2,11 +2,11 @@ use Rattle.std.proofs.Common.{ℕ, ◌+◌, List, get_or, set, sym, refl, ◌∙
 use Rattle.std.proofs.lemmas.List.{length-set}
 use Rattle.rules.specs.declared.table.Contract.{Contract}
 use Rattle.quota.specs.Walk.{Walked}
-use Rattle.quota.proofs.Walks.{Walking, walking-none, walking-more, walking-all}
+use Rattle.quota.proofs.Walks.{Walking, walking_none, walking-more, walking_all}
 use Rattle.quota.proofs.quota.Quota.walk.Goals as goal
 
 pub loop-i-init : goal.loop-i-init
-loop-i-init c = ((λ X o. walking-none _ _ _ _ _ _ refl), refl, c.told-stops)
+loop-i-init c = ((λ X o. walking_none _ _ _ _ _ _ refl), refl, c.told-stops)
 
 pub loop-i-preserved : goal.loop-i-preserved
 loop-i-preserved c =
@@ -26,4 +26,4 @@ loop-i-preserved c =
 pub returns : goal.returns
 returns c =
     let P : List Contract → Type 0 = λ cs. Walked c.args.self.now.rows cs c.args.row.now c.loop-i.stops in
-    subst P c.contracts-contracts.ensures (λ X o. walking-all _ _ X _ _ _ _ _ o c.loop-i-test.false (c.loop-i.invariant.0 X o))
+    subst P c.contracts-contracts.ensures (λ X o. walking_all _ _ X _ _ _ _ _ o c.loop-i-test.false (c.loop-i.invariant.0 X o))

@@ -1,7 +1,7 @@
 use Rattle.std.proofs.Common.{◌≡◌, ℕ, true, false, length, refl, ap}
 use Rattle.deck.specs.Contents.{data_of}
 use Rattle.board.specs.Marks.{member}
-use Rattle.board.proofs.Through.{explained-over, explained-first, read_at, minus-read, length_three}
+use Rattle.board.proofs.Through.{explained_over, explained_first, read_at, minus_read, length_three}
 use Rattle.matching.specs.Sets.{minus}
 use Rattle.reserve.specs.Reserves.{reserved}
 use Rattle.reserve.proofs.reserve.Reserve.explain.Goals as goal
@@ -13,7 +13,7 @@ returns-then-is-in g c =
     let xs = c.args.marks.now in
     let k = c.args.k in
     let R = reserved s.reserves.places t.contracts in
-    explained-first R (g.C.Board.kept s.below t) (λ X j. g.C.Explain.reason s.below t (minus X (R X)) j) (length t.contracts) xs k c.requires.0 c.requires.1.0 c.requires.1.1
+    explained_first R (g.C.Board.kept s.below t) (λ X j. g.C.Explain.reason s.below t (minus X (R X)) j) (length t.contracts) xs k c.requires.0 c.requires.1.0 c.requires.1.1
     (read_at (member c.part.new.taken) (R (member xs)) k true c.part.ensures c.if-is-in.ensures)
 
 pub returns : goal.returns
@@ -23,8 +23,8 @@ returns g c =
     let xs = c.args.marks.now in
     let k = c.args.k in
     let R = reserved s.reserves.places t.contracts in
-    explained-over R (g.C.Board.kept s.below t) (g.C.Explain.reason s.below t) (length t.contracts) xs c.take-out.new.marks k c.why.result c.requires.0
+    explained_over R (g.C.Board.kept s.below t) (g.C.Explain.reason s.below t) (length t.contracts) xs c.take-out.new.marks k c.why.result c.requires.0
     (length_three c.take-out.new.marks c.copy-from-slice.new.self xs (length t.contracts) c.take-out.auto.marks c.copy-from-slice.ensures.after c.requires.0) c.requires.1.0
-    (minus-read (member c.take-out.new.marks) (member c.copy-from-slice.new.self) (member c.part.new.taken) (member xs) (R (member xs)) c.take-out.ensures
+    (minus_read (member c.take-out.new.marks) (member c.copy-from-slice.new.self) (member c.part.new.taken) (member xs) (R (member xs)) c.take-out.ensures
     (ap member c.copy-from-slice.ensures.after) c.part.ensures)
     (read_at (member c.part.new.taken) (R (member xs)) k false c.part.ensures c.if-is-in.ensures) c.why.ensures

@@ -1,7 +1,7 @@
 use Rattle.std.proofs.Common.{length}
 use Rattle.deck.specs.Contents.{data_of}
 use Rattle.board.specs.Marks.{member}
-use Rattle.board.proofs.Through.{chosen-over}
+use Rattle.board.proofs.Through.{chosen_over}
 use Rattle.reserve.specs.Reserves.{reserved}
 use Rattle.reserve.proofs.reserve.Reserve.pass_on.Goals as goal
 
@@ -10,5 +10,5 @@ returns g c =
     let s = c.args.self.now in
     let t = data_of c.args.deck.now in
     let b = c.in-ok-choose.ensures in
-    chosen-over (reserved s.reserves.places t.contracts) (g.C.Board.kept s.below t) (length t.contracts) c.args.marks.now c.part.new.taken
+    chosen_over (reserved s.reserves.places t.contracts) (g.C.Board.kept s.below t) (length t.contracts) c.args.marks.now c.part.new.taken
     c.take-out.new.marks c.choose.new.marks c.put-in.new.marks c.requires c.part.ensures c.take-out.ensures b.1 c.put-in.auto.marks c.put-in.ensures

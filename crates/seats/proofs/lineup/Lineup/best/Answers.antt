@@ -1,7 +1,7 @@
 use Rattle.std.proofs.Common.{refl, arith}
 use Rattle.board.specs.Marks.{member}
 use Rattle.board.proofs.Marking.{member-within}
-use Rattle.seats.proofs.Lefts.{moved, found-best, found_none, said-equal, said-apart}
+use Rattle.seats.proofs.Lefts.{moved, found_best, found_none, said_equal, said_apart}
 use Rattle.seats.proofs.lineup.Lineup.best.Goals as goal
 use Rattle.seats.proofs.lineup.Lineup.best.Goals.{else-p-self-via-then-p-self+else-is-at, else-p-self-via-else-p-self}
 
@@ -11,8 +11,8 @@ returns-then-is-at c =
     let R = member c.args.rest.now in
     let l = c.args.self.now in
     record {
-      best = found-best cs R l c.args.dredger c.find-p.result (omega arith) c.requires.1 c.find-p.ensures
-          (member-within c.args.rest.now _ c.requires.0) (omega arith) (said-equal c.is-at.result _ _ c.is-at.ensures c.if-is-at.true);
+      best = found_best cs R l c.args.dredger c.find-p.result (omega arith) c.requires.1 c.find-p.ensures
+          (member-within c.args.rest.now _ c.requires.0) (omega arith) (said_equal c.is-at.result _ _ c.is-at.ensures c.if-is-at.true);
       ready = record { holds = c.requires.1.holds; points = moved cs R l c.args.dredger c.find-p.result (omega arith) c.requires.1 c.find-p.ensures };
       rule = refl;
     }
@@ -25,7 +25,7 @@ returns-else-p-self c =
     record {
       best = found_none cs R l c.args.dredger c.find-p.result (omega arith) c.requires.1 c.find-p.ensures
           (λ q d. elim c.else-p-self.branch [
-            | else-p-self-via-then-p-self+else-is-at w ↦ said-apart w.is-at.result _ _ w.is-at.ensures w.if-is-at.false d
+            | else-p-self-via-then-p-self+else-is-at w ↦ said_apart w.is-at.result _ _ w.is-at.ensures w.if-is-at.false d
             | else-p-self-via-else-p-self w ↦ omega arith
           ]);
       ready = record { holds = c.requires.1.holds; points = moved cs R l c.args.dredger c.find-p.result (omega arith) c.requires.1 c.find-p.ensures };

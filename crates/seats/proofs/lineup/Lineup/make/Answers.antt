@@ -1,7 +1,7 @@
 use Rattle.std.proofs.Common.{refl}
 use Rattle.board.specs.Marks.{member}
 use Rattle.board.proofs.Marking.{member-within}
-use Rattle.seats.proofs.Beginnings.{starts-points, holds-rises}
+use Rattle.seats.proofs.Beginnings.{starts_points, holds-rises}
 use Rattle.seats.proofs.Fronts.{front-holds}
 use Rattle.seats.proofs.lineup.Lineup.make.Goals as goal
 
@@ -14,7 +14,7 @@ pub returns : goal.returns
 returns c = (
   record {
     holds = front-holds _ _ _ _ _ (member-within c.args.rest.now _ c.requires) c.in-ok-self.ensures.1;
-    points = starts-points _ _ _ _ _ c.starts-self.ensures;
+    points = starts_points _ _ _ _ _ c.starts-self.ensures;
   },
   refl,
 )

@@ -1,12 +1,12 @@
 use Rattle.std.proofs.Common.{◌≡◌, [], ◌∷◌, ◌++◌, length, take, sym, ap, ◌∙◌, arith, length-set}
 use Rattle.std.proofs.lemmas.List.{take_more, take_more_set, take_all}
-use Rattle.rules.specs.Contents.{zeroSeat, seatAt}
+use Rattle.rules.specs.Contents.{zero_seat, seat_at}
 use Rattle.seats.proofs.seats.calls.padded.Goals as goal
 
 pub loop-i-preserved : goal.loop-i-preserved
 loop-i-preserved c = (
-  take_more_set c.loop-i.seats c.loop-i.i _ (omega arith) ∙ ap (λ xs. xs ++ seatAt c.args.given.now c.loop-i.i ∷ []) c.loop-i.invariant.0
-      ∙ sym (take_more c.args.given.now c.loop-i.i zeroSeat (omega arith)),
+  take_more_set c.loop-i.seats c.loop-i.i _ (omega arith) ∙ ap (λ xs. xs ++ seat_at c.args.given.now c.loop-i.i ∷ []) c.loop-i.invariant.0
+      ∙ sym (take_more c.args.given.now c.loop-i.i zero_seat (omega arith)),
   simp length-set c.loop-i.invariant.1,
 )
 

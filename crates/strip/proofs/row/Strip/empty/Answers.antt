@@ -1,9 +1,9 @@
 use Rattle.std.proofs.Common.{length, refl, ap, arith}
 use Rattle.strip.proofs.row.Strip.empty.Goals as goal
-use Rattle.strip.proofs.Rings.{ringed-none}
+use Rattle.strip.proofs.Rings.{ringed_none}
 
 pub invariant-of-result : goal.invariant-of-result
-invariant-of-result g c = (omega arith, (omega arith, (ap length (ringed-none _ _), tt)))
+invariant-of-result g c = (omega arith, (omega arith, (ap length (ringed_none _ _), tt)))
 
 pub returns : goal.returns
-returns g c = record { empty = ringed-none _ _; places = refl }
+returns g c = record { empty = ringed_none _ _; places = refl }
