@@ -1,4 +1,6 @@
 // Boards: a firm's way of choosing, by the laws it keeps.
+#![tactic(auto)]
+
 pub mod board;
 pub mod explain;
 pub mod marks;

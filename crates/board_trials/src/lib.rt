@@ -1,4 +1,6 @@
 // Trials of boards and layers: decks written by hand, each with what the rules keep of a list, and why.
+#![tactic(auto)]
+
 #[cfg(test)]
 mod book;
 #[cfg(test)]

@@ -1,4 +1,6 @@
 // A deck that passed intake, for reading.
+#![tactic(auto)]
+
 mod agree;
 pub mod bind;
 pub mod deck;

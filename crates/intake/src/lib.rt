@@ -1,4 +1,6 @@
 // Intake: a deck's bytes into six lent tables, whole or not at all.
+#![tactic(auto)]
+
 pub mod counts;
 mod entry;
 pub mod fault;

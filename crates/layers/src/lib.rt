@@ -1,2 +1,4 @@
 // Both layers of a deck, on any board.
+#![tactic(auto)]
+
 pub mod pile;

@@ -1,4 +1,6 @@
 // The line of waiting trainees, the queue and the stack, and the log.
+#![tactic(auto)]
+
 pub mod all;
 pub mod line;
 pub mod log;

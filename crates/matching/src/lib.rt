@@ -1,4 +1,6 @@
 // The mathematics of matching: choice functions and their laws, markets, and stable lists. It knows no deck.
+#![tactic(auto)]
+
 ghost use Rattle.matching.specs.Facts.{BesideLawful, FirstLawful, OneBest, OneRemoved, OverLawful, PathIndependent, Settled, WithoutLawful};
 
 // What holds of every lawful choice.

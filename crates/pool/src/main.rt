@@ -1,4 +1,6 @@
 // Reads a deck from standard input, and prints what it says or why it is refused.
+#![tactic(auto)]
+
 ghost use Rattle.std.specs.Prelude.{◌≤◌, length, IfOk};
 
 use listing::report::report;

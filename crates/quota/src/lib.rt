@@ -1,3 +1,5 @@
 // The quota board: caps on a tree of groups.
+#![tactic(auto)]
+
 pub mod quota;
 pub mod row;

@@ -1,3 +1,5 @@
 // A layer of reserved places, on any board.
+#![tactic(auto)]
+
 pub mod reserve;
 pub mod reserves;

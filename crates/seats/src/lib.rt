@@ -1,4 +1,6 @@
 // The seats board: in list order each seat takes the best contract at its dredger that is left, by its rule.
+#![tactic(auto)]
+
 pub mod board;
 mod lineup;
 mod lineups;

@@ -1,4 +1,6 @@
 // Trials of intake and bind: decks written by hand, each with what the rules say of it.
+#![tactic(auto)]
+
 #[cfg(test)]
 mod accepted;
 #[cfg(test)]

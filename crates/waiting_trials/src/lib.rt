@@ -1,4 +1,6 @@
 // Trials of the strip, the lines and the log: moves written by hand, and many moves beside a plain list.
+#![tactic(auto)]
+
 #[cfg(test)]
 mod full;
 #[cfg(test)]
