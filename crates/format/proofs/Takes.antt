@@ -1,5 +1,5 @@
 -- A record at the front of what is left, seen from the whole.
-use Rattle.std.proofs.Common.{ℕ, ◌+◌, ◌≤◌, List, length, drop, refl, ◌∙◌, arith, length-drop, drop-drop}
+use Rattle.std.proofs.Common.{ℕ, ◌≤◌, List, length, drop, refl, ◌∙◌, arith, length-drop, drop-drop}
 use Rattle.format.specs.declared.record.Record.{Record}
 use Rattle.format.specs.Layout.{Fronts, Ahead}
 

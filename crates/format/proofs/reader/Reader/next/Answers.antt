@@ -8,6 +8,6 @@ use Rattle.format.proofs.reader.Reader.next.Goals as goal
 pub returns : goal.returns
 returns c =
     let r = c.args.self.now in
-    MatchResult-weaker c.front-of.result c.front-of.ensures
+    MatchResult-weaker c.front_of.result c.front_of.ensures
     (λ x h. ahead r.bytes.now r.place x r.inside (subst (λ (l : List ℕ). Fronts l x) c.rest.ensures h))
     (λ f h. subst (λ (l : List ℕ). ByteNo l r.place f) c.rest.ensures h)
