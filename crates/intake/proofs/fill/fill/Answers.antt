@@ -9,7 +9,7 @@ use Rattle.intake.proofs.fill.fill.Goals as goal
 pub returns-then-bytes-gt-LONGEST : goal.returns-then-bytes-gt-LONGEST
 returns-then-bytes-gt-LONGEST c = too_long (omega arith)
 
-pub next-entry-requires : goal.next-entry-requires
+pub next-entry-requires : goal.next_entry-requires
 next-entry-requires c =
     let st = c.loop-entry.invariant.1 in
     let same : c.loop-entry.reader.bytes.now ≡ c.args.bytes.now = st.same in
@@ -20,29 +20,29 @@ next-entry-requires c =
       led = led_past st (content_of c.firsts-past.result) c.firsts-past.ensures;
     }
 
-pub returns-in-err-entry : goal.returns-in-err-entry
-returns-in-err-entry c =
-    let p = err_from_is_err_and c.from-residual.result c.from-residual.ensures.1 in
-    rw (p.1, p.2) (refused c.loop-entry.invariant.1 (content_of c.firsts-past.result) c.firsts-past.ensures (omega arith) c.in-err-entry.field-0.0 c.in-err-entry.ensures.cases)
+pub returns-in_err-entry : goal.returns-in_err-entry
+returns-in_err-entry c =
+    let p = err_from_is_err_and c.from_residual.result c.from_residual.ensures.1 in
+    rw (p.1, p.2) (refused c.loop-entry.invariant.1 (content_of c.firsts-past.result) c.firsts-past.ensures (omega arith) c.in_err-entry.field-0.0 c.in_err-entry.ensures.cases)
 
 pub returns-in-End : goal.returns-in-End
 returns-in-End c =
     let st = c.loop-entry.invariant.1 in
     let x = content_of c.firsts-past.result in
     let e = c.firsts-past.ensures in
-    let h = c.in-ok-entry.ensures.cases in
+    let h = c.in_ok-entry.ensures.cases in
     let short : length c.args.bytes.now ≤ 15363 = omega arith in
-    let same : c.next-entry.new.reader.bytes.now ≡ c.args.bytes.now = c.in-ok-entry.ensures.same ∙ st.same in
+    let same : c.next_entry.new.reader.bytes.now ≡ c.args.bytes.now = c.in_ok-entry.ensures.same ∙ st.same in
     let l = ap length same in
     MatchResult-weaker c.close.result c.close.ensures
-    (λ k g. closed st x e short c.in-End.count c.next-entry.new.reader.place c.in-ok-entry.entry c.in-ok-entry.next h c.in-End.is k (g.0, g.1, sym c.place.ensures ∙ g.2))
-    (λ f g. not_closed st x e short c.in-End.count c.next-entry.new.reader.place c.in-ok-entry.entry c.in-ok-entry.next h c.in-End.is (omega (arith, c.next-entry.new.reader.inside)) f
-    (subst (λ (y : ℕ). EndNo c.in-End.count c.loop-entry.had.wishes y c.next-entry.new.reader.place (length c.args.bytes.now) f) c.place-place.ensures
+    (λ k g. closed st x e short c.in-End.count c.next_entry.new.reader.place c.in_ok-entry.entry c.in_ok-entry.next h c.in-End.is k (g.0, g.1, sym c.place.ensures ∙ g.2))
+    (λ f g. not_closed st x e short c.in-End.count c.next_entry.new.reader.place c.in_ok-entry.entry c.in_ok-entry.next h c.in-End.is (omega (arith, c.next_entry.new.reader.inside)) f
+    (subst (λ (y : ℕ). EndNo c.in-End.count c.loop-entry.had.wishes y c.next_entry.new.reader.place (length c.args.bytes.now) f) c.place-place.ensures
     (subst (λ (y : ℕ). EndNo c.in-End.count c.loop-entry.had.wishes c.place-place.result y (length c.args.bytes.now) f) c.place.ensures g)))
 
 pub loop-entry-preserved : goal.loop-entry-preserved
 loop-entry-preserved c =
-    again c.loop-entry.invariant.1 (content_of c.firsts-past.result) c.firsts-past.ensures c.next-entry.new.reader.bytes.now c.next-entry.new.reader.place
-    c.in-ok-entry.entry c.in-ok-entry.next c.store-had.result
+    again c.loop-entry.invariant.1 (content_of c.firsts-past.result) c.firsts-past.ensures c.next_entry.new.reader.bytes.now c.next_entry.new.reader.place
+    c.in_ok-entry.entry c.in_ok-entry.next c.store-had.result
     (tables c.store-had.new.groups c.store-had.new.seats c.store-had.new.reserves c.store-had.new.trainees c.store-had.new.contracts c.store-had.new.bars)
-    c.in-ok-entry.ensures.same c.in-ok-entry.ensures.cases c.in-default.not-End c.store-had.ensures.counts c.store-had.ensures.entries
+    c.in_ok-entry.ensures.same c.in_ok-entry.ensures.cases c.in_default.not-End c.store-had.ensures.counts c.store-had.ensures.entries

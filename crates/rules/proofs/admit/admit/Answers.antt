@@ -9,16 +9,16 @@ use Rattle.rules.specs.Rules.{RuleNo}
 use Rattle.rules.proofs.Faults.{broken}
 use Rattle.rules.proofs.admit.admit.Goals as goal
 
-pub returns-in-err-judge : goal.returns-in-err-judge
-returns-in-err-judge c =
-    let p = err_from_is_err_and c.from-residual-in-err-judge.result c.from-residual-in-err-judge.ensures.1 in
+pub returns-in_err-judge : goal.returns-in_err-judge
+returns-in_err-judge c =
+    let p = err_from_is_err_and c.from_residual-in_err-judge.result c.from_residual-in_err-judge.ensures.1 in
     let rest : List ℕ = drop c.args.reader.now.place c.args.reader.now.bytes.now in
     let more : List ℕ = drop c.take.new.self.place c.args.reader.now.bytes.now in
-    let t : Starts rest c.in-ok-rec.rec more = c.in-ok-rec.ensures.cases.starts in
-    let k = one_kind rest c.in-ok-kind.field-0 (kind c.in-ok-rec.rec) c.in-ok-kind.ensures (begun rest c.in-ok-rec.rec more t).0 in
-    let m = subst (λ (j : Kind). may c.args.section j ≡ true) k c.in-ok-next.ensures.0 in
-    let h = subst (λ (n : ℕ). RuleNo (content_of c.args.past) c.in-ok-rec.rec n c.in-err-judge.field-0.0) c.place-place.ensures c.in-err-judge.ensures in
+    let t : Starts rest c.in_ok-rec.rec more = c.in_ok-rec.ensures.cases.starts in
+    let k = one_kind rest c.in_ok-kind.field-0 (kind c.in_ok-rec.rec) c.in_ok-kind.ensures (begun rest c.in_ok-rec.rec more t).0 in
+    let m = subst (λ (j : Kind). may c.args.section j ≡ true) k c.in_ok-next.ensures.0 in
+    let h = subst (λ (n : ℕ). RuleNo (content_of c.args.past) c.in_ok-rec.rec n c.in_err-judge.field-0.0) c.place-place.ensures c.in_err-judge.ensures in
     rw (p.1, p.2) (record {
-      same = c.in-ok-rec.ensures.same;
-      cases = broken c.args.section (content_of c.args.past) rest c.args.reader.now.place c.in-ok-rec.rec more c.in-err-judge.field-0.0 t m h;
+      same = c.in_ok-rec.ensures.same;
+      cases = broken c.args.section (content_of c.args.past) rest c.args.reader.now.place c.in_ok-rec.rec more c.in_err-judge.field-0.0 t m h;
     })
