@@ -106,7 +106,7 @@ module _ {all rb : List ℕ} {place : ℕ} {section : Section} {had : Counts} {t
   pub room_for : (q : ℕ) (e : Entry) (s : Section) → Entered section x rb place q (e, s) → PlaceFor had t e
   room_for q e s h =
       let c = came q e s h in
-      subst (λ (y : Entry). PlaceFor had t y) (sym c.entry-is)
+      subst (λ (y : Entry). PlaceFor had t y) (sym c.entry_is)
       (place_for (listed rs) had t (length (encodes rs)) c.came c.read.passes.1.ruled.room st.holds st.roomy)
 
   -- one record more, and its entry stored
@@ -114,13 +114,13 @@ module _ {all rb : List ℕ} {place : ℕ} {section : Section} {had : Counts} {t
       ((n : ℕ) → e ≡ E.End n → ⊥) → had' ≡ counted had e → t' ≡ written had t e → (r : Row) × State all rb' q s had' t' r
   again rb' q e s had' t' same h more hc ht =
       let c = came q e s h in
-      let holds = subst (λ (y : Entry). Holds (pushed (listed rs) y) (counted had e) (written had t e)) c.entry-is (holds_more (listed rs) had t e st.holds (room_for q e s h)) in (
+      let holds = subst (λ (y : Entry). Holds (pushed (listed rs) y) (counted had e) (written had t e)) c.entry_is (holds_more (listed rs) had t e st.holds (room_for q e s h)) in (
         rs ▸ c.came,
         record {
           same = same ∙ st.same;
           read = c.read;
-          section_is = c.section-is;
-          is_open = open_after (listed rs) (length (encodes rs)) c.came (λ n z. more n (c.entry-is ∙ z));
+          section_is = c.section_is;
+          is_open = open_after (listed rs) (length (encodes rs)) c.came (λ n z. more n (c.entry_is ∙ z));
           holds = subst (λ (y : Content). Holds (listed (rs ▸ c.came)) had' y) (sym ht) (subst (λ (d : Counts). Holds (listed (rs ▸ c.came)) d (written had t e)) (sym hc) holds);
           roomy = subst Roomy (sym ht) (roomy_written had t e st.roomy);
         },
@@ -130,7 +130,7 @@ module _ {all rb : List ℕ} {place : ℕ} {section : Section} {had : Counts} {t
     read-end : Read all q (rs ▸ R.End n)
     read-end =
         let c = came q e s h in
-        subst (λ (r : Record). Read all q (rs ▸ r)) (end_of (listed rs) (length (encodes rs)) n c.came (sym c.entry-is ∙ end)) c.read
+        subst (λ (r : Record). Read all q (rs ▸ r)) (end_of (listed rs) (length (encodes rs)) n c.came (sym c.entry_is ∙ end)) c.read
 
     -- the deck is whole
     pub closed : (c : Counts) → (c ≡ had) × (n ≡ had.wishes) × (q ≡ length all) → Fills all c t

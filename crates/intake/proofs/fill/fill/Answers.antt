@@ -9,8 +9,8 @@ use Rattle.intake.proofs.fill.fill.Goals as goal
 pub returns-then-bytes-gt-LONGEST : goal.returns-then-bytes-gt-LONGEST
 returns-then-bytes-gt-LONGEST c = too_long (omega arith)
 
-pub next-entry-requires : goal.next_entry-requires
-next-entry-requires c =
+pub next_entry-requires : goal.next_entry-requires
+next_entry-requires c =
     let st = c.loop-entry.invariant.1 in
     let same : c.loop-entry.reader.bytes.now ≡ c.args.bytes.now = st.same in
     let l = ap length same in
