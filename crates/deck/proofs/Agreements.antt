@@ -1,11 +1,11 @@
 -- Tables that match those of another intake of the same bytes.
-use Rattle.std.proofs.Common.{◌≡◌, ℕ, ◌+◌, ◌-◌, ◌<◌, ◌≤◌, List, ◌++◌, length, replicate, sym, refl, ap, ◌∙◌, subst, append_assoc, arith, length-append}
+use Rattle.std.proofs.Common.{◌≡◌, ℕ, ◌+◌, ◌-◌, ◌≤◌, List, ◌++◌, length, replicate, sym, ap, ◌∙◌, subst, append_assoc, arith, length-append}
 use Rattle.std.proofs.lemmas.List.{replicate-append-replicate}
 use Rattle.rules.specs.Contents.{Content}
 use Rattle.intake.specs.declared.counts.Counts.{Counts}
 use Rattle.intake.specs.Rows.{Row, listed}
 use Rattle.intake.specs.Book.{Fills}
-use Rattle.intake.specs.Fillings.{Held, Holds, Roomy}
+use Rattle.intake.specs.Fillings.{Held, Holds}
 use Rattle.intake.proofs.Unique.{one_row}
 use Rattle.deck.specs.Alike.{Extends, Matches, Fits}
 

@@ -1,8 +1,8 @@
 -- The facts of the deck that a lawful row gives, the deck of E alone, and the entries that are counted.
-use Rattle.std.proofs.Common.{◌≡◌, ℕ, ◌+◌, ◌<◌, ◌≤◌, true, List, [], ◌∷◌, sym, refl, ap, ◌∙◌, subst, arith}
+use Rattle.std.proofs.Common.{ℕ, List, [], ◌∷◌, sym, refl, subst, arith}
 use Rattle.rules.specs.Contents.{Content, nothing}
 use Rattle.intake.specs.declared.counts.Counts.{Counts}
-use Rattle.intake.specs.Rows.{Row, none, ended, listed}
+use Rattle.intake.specs.Rows.{none, ended, listed}
 use Rattle.intake.specs.Firsts.{firsts}
 use Rattle.intake.proofs.Rows.{Few, few}
 use Rattle.intake.proofs.Tables.{holds-firsts}

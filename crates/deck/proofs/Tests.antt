@@ -1,5 +1,5 @@
 -- A test that came out false.
-use Rattle.std.proofs.Common.{◌≡◌, ℕ, Bool, true, false, Decides, sym, ◌∙◌, arith}
+use Rattle.std.proofs.Common.{◌≡◌, ℕ, Bool, true, false, Decides, arith}
 
 pub clash : (b : Bool) → b ≡ true → b ≡ false → ⊥
 clash b e f = let z : ◌≡◌ {A = ℕ} 0 1 = cc in omega arith

@@ -1,5 +1,5 @@
 -- From the faults of the code to the refusals of the book.
-use Rattle.std.proofs.Common.{◌≡◌, ℕ, ◌<◌, ◌≤◌, true, false, List, ◌++◌, length, sym, refl, ap, ◌∙◌, subst, arith}
+use Rattle.std.proofs.Common.{◌≡◌, ℕ, ◌<◌, ◌≤◌, true, List, length, subst, arith}
 use Rattle.format.specs.declared.fault.ByteFault.TheVariants.{NoByte, NoKind, Short}
 use Rattle.format.specs.declared.fault.Refusal.{Refusal}
 use Rattle.format.specs.declared.record.Kind.{Kind}

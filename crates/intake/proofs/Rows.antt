@@ -1,17 +1,15 @@
 -- What holds of the entries of every row that passes.
-use Rattle.std.proofs.Common.{◌≡◌, ℕ, ◌+◌, ◌-◌, ◌*◌, ◌<◌, ◌≤◌, true, false, List, [], ◌∷◌, ◌++◌, length, sym, refl, ap, ◌∙◌, arith, length-append}
-use Rattle.format.specs.declared.record.Kind.{Kind}
+use Rattle.std.proofs.Common.{◌≡◌, ℕ, ◌<◌, ◌≤◌, true, List, [], ◌∷◌, ◌++◌, length, refl, arith, length-append}
 use Rattle.format.specs.declared.record.Kind.TheVariants as K
 use Rattle.format.specs.declared.record.Record.{Record}
 use Rattle.format.specs.declared.record.Record.TheVariants as R
-use Rattle.format.specs.Layout.{kind, encode, size, Formed}
-use Rattle.format.proofs.Unique.{encode_size}
+use Rattle.format.specs.Layout.{kind}
 use Rattle.rules.specs.declared.section.Section.{Section}
 use Rattle.rules.specs.declared.section.Section.TheVariants.{Groups, Seats, Reserves, Trainees, Closed}
 use Rattle.rules.specs.Contents.{Content}
-use Rattle.rules.specs.Order.{may, after}
-use Rattle.rules.specs.Rules.{entries, most, Room, Allowed}
-use Rattle.intake.specs.Rows.{Row, none, ◌▸◌, encodes, section_of, listed, entry_of, pushed, Passes, Led, Belongs}
+use Rattle.rules.specs.Order.{may}
+use Rattle.rules.specs.Rules.{Room}
+use Rattle.intake.specs.Rows.{Row, none, ◌▸◌, section_of, listed, entry_of, pushed, Passes, Led, Belongs}
 
 -- no table has more than its most
 pub record Few (t : Content) : Type 0 where

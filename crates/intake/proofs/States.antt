@@ -1,13 +1,11 @@
 -- The state of the reading loop after the records of a row.
-use Rattle.std.proofs.Common.{◌≡◌, ℕ, ◌+◌, ◌<◌, ◌≤◌, List, [], ◌++◌, length, drop, sym, refl, ap, ◌∙◌, subst, append_assoc, append-nil, arith, length-append, drop_of_length-le}
+use Rattle.std.proofs.Common.{◌≡◌, ℕ, ◌≤◌, List, ◌++◌, length, drop, sym, ap, ◌∙◌, append_assoc, append-nil, arith, length-append, drop_of_length-le}
 use Rattle.format.specs.declared.record.Record.{Record}
-use Rattle.format.specs.declared.record.Record.TheVariants as R
-use Rattle.format.specs.Layout.{encode, kind, size, Took}
+use Rattle.format.specs.Layout.{encode, Took}
 use Rattle.format.proofs.Unique.{encode_size}
 use Rattle.rules.specs.declared.section.Section.{Section}
 use Rattle.rules.specs.declared.section.Section.TheVariants.{Closed}
 use Rattle.rules.specs.Contents.{Content}
-use Rattle.rules.specs.Order.{after}
 use Rattle.rules.specs.Rules.{Allowed}
 use Rattle.intake.specs.declared.counts.Counts.{Counts}
 use Rattle.intake.specs.Rows.{Row, ◌▸◌, encodes, section_of, listed, Passes}

@@ -1,16 +1,14 @@
 -- Tables that hold entries: one more, their first entries, and blank tables.
-use Rattle.std.proofs.Common.{◌≡◌, ℕ, suc, ◌+◌, ◌-◌, ◌<◌, ◌≤◌, List, [], ◌∷◌, ◌++◌, length, take, set, replicate, sym, refl, ap, ◌∙◌, append_assoc, arith, length-append, length-set}
+use Rattle.std.proofs.Common.{◌≡◌, ℕ, suc, ◌+◌, ◌-◌, ◌<◌, List, [], ◌∷◌, ◌++◌, length, take, set, replicate, sym, refl, ap, ◌∙◌, append_assoc, arith, length-append, length-set}
 use native.Mathlib.Numerals.{unary_clauses}
-use lib.ListN.{length-replicate}
 use lib.Seq.{set_at, take-append_seam}
-use Rattle.rules.specs.declared.table.Group.{Group}
 use Rattle.rules.specs.Contents.{Content, nothing}
 use Rattle.intake.specs.declared.counts.Counts.{Counts}
 use Rattle.intake.specs.declared.entry.Entry.{Entry}
 use Rattle.intake.specs.declared.entry.Entry.TheVariants as E
 use Rattle.intake.specs.Rows.{pushed}
 use Rattle.intake.specs.Firsts.{firsts}
-use Rattle.intake.specs.Fillings.{padded, blanks, Held, Holds, PlaceFor, counted, written}
+use Rattle.intake.specs.Fillings.{blanks, Held, Holds, PlaceFor, counted, written}
 
 module _ {A : Type 0} (d : A) (xs : List A) (n : ℕ) (t : List A) (h : Held d xs n t) where
   pub held_firsts : take n t ≡ xs

@@ -1,11 +1,11 @@
 -- One turn of the reading loop: a refusal, the end, or one record more.
-use Rattle.std.proofs.Common.{◌≡◌, ℕ, ◌+◌, ◌<◌, ◌≤◌, List, ◌++◌, length, drop, sym, refl, ap, ◌∙◌, subst, arith, length-drop, length-set}
+use Rattle.std.proofs.Common.{◌≡◌, ℕ, ◌<◌, ◌≤◌, List, length, drop, sym, refl, ap, ◌∙◌, subst, arith, length-drop, length-set}
 use Rattle.format.specs.declared.record.Record.{Record}
 use Rattle.format.specs.declared.record.Record.TheVariants as R
 use Rattle.format.specs.Layout.{kind, Took}
 use Rattle.rules.specs.declared.fault.RecordFault.{RecordFault}
 use Rattle.rules.specs.declared.section.Section.{Section}
-use Rattle.rules.specs.declared.section.Section.TheVariants.{Trainees, Closed}
+use Rattle.rules.specs.declared.section.Section.TheVariants.{Closed}
 use Rattle.rules.specs.Contents.{Content}
 use Rattle.rules.specs.Order.{after}
 use Rattle.rules.specs.Refusals.{record_refusal}
@@ -16,10 +16,10 @@ use Rattle.intake.specs.declared.entry.Entry.TheVariants as E
 use Rattle.intake.specs.declared.fault.DeckFault.{DeckFault}
 use Rattle.intake.specs.declared.fault.DeckFault.TheVariants.{Records, SmallTable, TooLong, WrongCount, Trailing, OtherTables}
 use Rattle.intake.specs.Refusals.{refusal}
-use Rattle.intake.specs.Rows.{Row, ◌▸◌, encodes, section_of, listed, entry_of, pushed, Passes, Spells, Led, Entered}
+use Rattle.intake.specs.Rows.{Row, ◌▸◌, encodes, section_of, listed, entry_of, pushed, Passes, Led, Entered}
 use Rattle.intake.specs.Fillings.{Roomy, Holds, PlaceFor, counted, written}
 use Rattle.intake.specs.Firsts.{firsts}
-use Rattle.intake.specs.Book.{Reached, Due, wrong_count, trailing, EndNo, Fills}
+use Rattle.intake.specs.Book.{Due, wrong_count, trailing, EndNo, Fills}
 use Rattle.intake.proofs.Rows.{few, led}
 use Rattle.intake.proofs.Tables.{holds-firsts, holds_more}
 use Rattle.intake.proofs.States.{Read, State, read_more, read_all}

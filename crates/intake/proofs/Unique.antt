@@ -6,14 +6,14 @@ use Rattle.format.specs.declared.record.Kind.{Kind}
 use Rattle.format.specs.declared.record.Record.{Record}
 use Rattle.format.specs.declared.record.Record.TheVariants as R
 use Rattle.format.specs.Layout.{encode, kind, size, Formed, Starts}
-use Rattle.format.proofs.Unique.{encode_size, begun, one_record}
+use Rattle.format.proofs.Unique.{encode_size, one_record}
 use Rattle.rules.specs.declared.section.Section.{Section}
 use Rattle.rules.specs.declared.section.Section.TheVariants.{Closed}
 use Rattle.rules.specs.Contents.{Content}
 use Rattle.rules.specs.Order.{may, after}
 use Rattle.rules.specs.Rules.{Allowed}
 use Rattle.intake.specs.Rows.{Row, none, ◌▸◌, encodes, section_of, listed, entry_of, pushed, Passes, ended, Spells}
-use Rattle.intake.specs.Book.{Question, there, known, stands, whole, room, ranged, fresh, number, layer, Yes, FirstNo, Reached, Due, too_long, at_record, wrong_count, trailing}
+use Rattle.intake.specs.Book.{Question, there, known, stands, whole, room, ranged, fresh, number, FirstNo, Reached, Due, too_long, at_record, wrong_count, trailing}
 use Rattle.intake.proofs.Rows.{few}
 use Rattle.intake.proofs.Dues.{all_yes}
 

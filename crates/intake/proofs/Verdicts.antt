@@ -1,12 +1,11 @@
 -- Whatever is answered as the rules have it is the one verdict.
-use Rattle.std.proofs.Common.{◌≡◌, ℕ, List, Ok, Err, Result, sym, refl, ap, ◌∙◌, subst, arith}
+use Rattle.std.proofs.Common.{◌≡◌, ℕ, List, Ok, Err, Result, sym, refl, subst, arith}
 use Rattle.format.specs.declared.fault.Refusal.{Refusal}
 use Rattle.rules.specs.Contents.{Content}
 use Rattle.intake.specs.declared.counts.Counts.{Counts}
 use Rattle.intake.specs.declared.fault.DeckFault.{DeckFault}
 use Rattle.intake.specs.declared.fault.DeckFault.TheVariants.{SmallTable}
 use Rattle.intake.specs.Refusals.{refusal}
-use Rattle.intake.specs.Rows.{Row, Spells}
 use Rattle.intake.specs.Book.{Due, Answers, Refused, Verdict, Taken, Judged}
 use Rattle.intake.proofs.Unique.{not_both, one_refusal}
 

@@ -1,6 +1,5 @@
-use Rattle.std.proofs.Common.{◌≡◌, ◌≤◌, length, refl, lit≤}
-use Rattle.rules.specs.Contents.{Content}
-use Rattle.intake.specs.Fillings.{Roomy, tables}
+use Rattle.std.proofs.Common.{lit≤}
+use Rattle.intake.specs.Fillings.{tables}
 use Rattle.deck.proofs.Agreements.{Exact, agreed, matched}
 use Rattle.deck.proofs.agree.agrees.Goals as goal
 use Rattle.deck.proofs.agree.agrees.Goals.{In-Ok}

@@ -4,8 +4,8 @@ use Rattle.bar.specs.Bars.{span_at}
 use Rattle.bar.proofs.Barring.{get_or_begins}
 use Rattle.bar.proofs.bars.Bars.of.Goals as goal
 
-pub invariant-of-result : goal.invariant-of-result
-invariant-of-result c =
+pub invariant_of-result : goal.invariant_of-result
+invariant_of-result c =
     let bs = c.bars-bars.result.now in
     let ss = c.spans-of.result in
     let same : (i : ℕ) → i < length bs → bar_at c.copied.result i ≡ bar_at bs i = get_or_begins zero_barring bs c.copied.result c.copied.ensures.front in
