@@ -125,8 +125,8 @@ wider b x t h = record {
   bars_apart = h.bars_apart;
 }
 
-is-printed : (b : ℕ) → (32 ≤ b) × (b ≤ 126) → printed b ≡ true
-is-printed b h = let e = le-leb 32 b h.0 in let f = le-leb b 126 h.1 in cc
+is_printed : (b : ℕ) → (32 ≤ b) × (b ≤ 126) → printed b ≡ true
+is_printed b h = let e = le-leb 32 b h.0 in let f = le-leb b 126 h.1 in cc
 
 -- the name of the record just read
 name_at_lem : (b head n : List ℕ) → length head ≡ 4 → length n ≡ 8 → Printable n → NameAt (b ++ (head ++ n)) (length b + 4)
@@ -140,7 +140,7 @@ name_at_lem b head n hl nl p =
           ∙ ap (λ (k : ℕ). get_or (head ++ n) k 0) (let z : length b + 4 + i - length b ≡ 4 + i = omega arith in z)
           ∙ get_or-append_right head n 4 (4 + i) 0 hl (omega arith)
           ∙ ap (λ (k : ℕ). get_or n k 0) (let z : 4 + i - 4 ≡ i = omega arith in z) in
-          subst (λ (y : ℕ). printed y ≡ true) (sym e) (is-printed (get_or n i 0) (p i (omega arith))),
+          subst (λ (y : ℕ). printed y ≡ true) (sym e) (is_printed (get_or n i 0) (p i (omega arith))),
     )
 
 -- the entry of a new group

@@ -1,9 +1,8 @@
 -- What a bound deck prints is the outcome of its bytes.
-use Rattle.std.proofs.Common.{◌≡◌, ℕ, List, [], ◌++◌, sym, refl, ap, ◌∙◌}
+use Rattle.std.proofs.Common.{◌≡◌, ℕ, List, [], ◌++◌, ap, ◌∙◌}
 use Rattle.rules.specs.Contents.{Content}
 use Rattle.intake.specs.declared.counts.Counts.{Counts}
 use Rattle.intake.specs.Firsts.{firsts}
-use Rattle.intake.specs.Rows.{listed}
 use Rattle.intake.proofs.Tables.{holds-firsts}
 use Rattle.deck.specs.Alike.{Fits}
 use Rattle.listing.specs.Lines.{text_of_deck}

@@ -6,5 +6,5 @@ use Rattle.intake.specs.Book.{Due}
 use Rattle.listing.specs.Lines.{line_of_refusal, text_of_deck}
 
 pub data Outcome (all out : List ℕ) : Type 0 where
-  is-refused : (x : Refusal) → Due all x → out ≡ line_of_refusal x → Outcome all out
+  is_refused : (x : Refusal) → Due all x → out ≡ line_of_refusal x → Outcome all out
   is_dealt : (rs : Row) → Spells all rs → out ≡ text_of_deck all (listed rs) → Outcome all out

@@ -1,4 +1,4 @@
-use Rattle.std.proofs.Common.{◌<◌, ◌≤◌, length, ◌∙◌, arith}
+use Rattle.std.proofs.Common.{◌∙◌, arith}
 use Rattle.listing.proofs.Wishes.{wish_more, wish_other, wish_all}
 use Rattle.listing.proofs.report.wish_count.Goals as goal
 use Rattle.listing.proofs.report.wish_count.Goals.{then-c-trainee, else-c-trainee}
