@@ -57,17 +57,17 @@ const EQUALS: [Good; 6] = [
     ),
 ];
 
-fn all_accepted(rt: &impl Abort, cases: &[Good]) -> Result<(), Fail> {
+fn all_accepted(rt: &impl Abort, what: &str, cases: &[Good]) -> Result<(), Fail> {
     for (i, case) in cases.iter().enumerate() {
-        assert_eq!(rt; judged(case.0), Ok(counts_of(case.1)), "case {i}");
+        assert_eq!(rt; judged(case.0), Ok(counts_of(case.1)), "{what}, case {i}");
     }
     Ok(())
 }
 
 #[test]
 fn parts_and_repeats(rt: HostRuntime) -> Result<(), Fail> {
-    all_accepted(&rt, &PARTS).note("parts")?;
-    all_accepted(&rt, &EQUALS).note("equals")?;
+    all_accepted(&rt, "parts", &PARTS)?;
+    all_accepted(&rt, "equals", &EQUALS)?;
     assert_eq!(rt; judged(P), Ok(P_COUNTS));
     assert_eq!(rt; judged(Q), Ok(Q_COUNTS));
     Ok(())

@@ -22,7 +22,7 @@ fn told(answer: Result<(), DeckFault>) -> Result<(), Refusal> {
 }
 
 fn is_empty(place: Deck) -> bool {
-    place.bytes() == b"E\0\0"
+    place.bytes() == b"E\0\0".as_slice()
         && place.groups().is_empty()
         && place.seats().is_empty()
         && place.reserves().is_empty()
@@ -33,22 +33,22 @@ fn is_empty(place: Deck) -> bool {
 
 fn is_p(place: Deck) -> bool {
     place.bytes() == P
-        && place.groups() == &p_groups()
+        && place.groups() == p_groups().as_slice()
         && place.seats().is_empty()
         && place.reserves().is_empty()
-        && place.trainees() == &p_trainees()
-        && place.contracts() == &p_contracts()
+        && place.trainees() == p_trainees().as_slice()
+        && place.contracts() == p_contracts().as_slice()
         && place.bars().is_empty()
 }
 
 fn is_q(place: Deck) -> bool {
     place.bytes() == Q
-        && place.groups() == &q_groups()
-        && place.seats() == &Q_SEATS
-        && place.reserves() == &Q_RESERVES
-        && place.trainees() == &q_trainees()
-        && place.contracts() == &q_contracts()
-        && place.bars() == &Q_BARS
+        && place.groups() == q_groups().as_slice()
+        && place.seats() == Q_SEATS.as_slice()
+        && place.reserves() == Q_RESERVES.as_slice()
+        && place.trainees() == q_trainees().as_slice()
+        && place.contracts() == q_contracts().as_slice()
+        && place.bars() == Q_BARS.as_slice()
 }
 
 // A place holds E alone first, and then what was bound last.
@@ -76,6 +76,8 @@ fn book_of(rt: &impl Abort, heap: Global, deck: &[u8], counts: Counts) -> Result
 // After P is bound with its tables, these bytes, tables and counts are refused, and the place keeps P.
 fn check_unbound<'a>(
     rt: &impl Abort,
+    what: &str,
+    number: usize,
     own: &'a Book,
     deck: &'a [u8],
     book: &'a Book,
@@ -84,19 +86,19 @@ fn check_unbound<'a>(
     let mut place = Deck::empty();
     assert_eq!(rt; told(place.bind(P, own.tables(), P_COUNTS)), Ok(()));
     let answer = told(place.bind(deck, book.tables(), counts));
-    assert_eq!(rt; answer, Err(refusal(12, 0)));
-    assert_eq!(rt; place.groups().len(), 3);
-    assert!(rt; is_p(place));
+    assert_eq!(rt; answer, Err(refusal(12, 0)), "{what} {number}");
+    assert_eq!(rt; place.groups().len(), 3, "{what} {number}");
+    assert!(rt; is_p(place), "{what} {number}");
     Ok(())
 }
 
 // Q's tables with another entry at this place of each.
-fn check_marked(rt: &impl Abort, heap: Global, at: usize) -> Result<(), Fail> {
+fn check_marked(rt: &impl Abort, what: &str, heap: Global, at: usize) -> Result<(), Fail> {
     let own = book_of(rt, heap, P, P_COUNTS)?;
     for table in 0..6 {
         let mut book = book_of(rt, heap, Q, Q_COUNTS)?;
         book.mark(table, at);
-        check_unbound(rt, &own, Q, &book, Q_COUNTS).note(format_args!("table {table}"))?;
+        check_unbound(rt, what, table, &own, Q, &book, Q_COUNTS)?;
     }
     Ok(())
 }
@@ -104,11 +106,11 @@ fn check_marked(rt: &impl Abort, heap: Global, at: usize) -> Result<(), Fail> {
 // Entry 0 is an entry of Q in every table, 2 in all but the reserves and 3 in the groups alone; 4 and 63 are blank in every table.
 #[test]
 fn changed_entries_are_not_bound(rt: HostRuntime) -> Result<(), Fail> {
-    check_marked(&rt, rt.alloc(), 0).note("entry 0")?;
-    check_marked(&rt, rt.alloc(), 2).note("entry 2")?;
-    check_marked(&rt, rt.alloc(), 3).note("entry 3")?;
-    check_marked(&rt, rt.alloc(), 4).note("entry 4")?;
-    check_marked(&rt, rt.alloc(), 63).note("entry 63")
+    check_marked(&rt, "entry 0, table", rt.alloc(), 0)?;
+    check_marked(&rt, "entry 2, table", rt.alloc(), 2)?;
+    check_marked(&rt, "entry 3, table", rt.alloc(), 3)?;
+    check_marked(&rt, "entry 4, table", rt.alloc(), 4)?;
+    check_marked(&rt, "entry 63, table", rt.alloc(), 63)
 }
 
 // Q's counts are 4, 3, 2, 3, 3, 3.
@@ -134,7 +136,7 @@ fn changed_counts_are_not_bound(rt: HostRuntime) -> Result<(), Fail> {
     let book = book_of(&rt, rt.alloc(), Q, Q_COUNTS)?;
     for (i, row) in OTHER_COUNTS.iter().enumerate() {
         let counts = counts_of(*row);
-        check_unbound(&rt, &own, Q, &book, counts).note(format_args!("counts {i}"))?;
+        check_unbound(&rt, "counts", i, &own, Q, &book, counts)?;
     }
     Ok(())
 }
@@ -147,12 +149,20 @@ fn other_bytes_are_not_bound(rt: HostRuntime) -> Result<(), Fail> {
     let mut book = book_of(&rt, heap, Q, Q_COUNTS)?;
     let mut longer = Vec::from_slice(heap, Q)?;
     longer.push(0)?;
-    check_unbound(&rt, &own, P, &book, Q_COUNTS).note("P")?;
-    check_unbound(&rt, &own, b"E\0\0", &book, Q_COUNTS).note("E alone")?;
-    check_unbound(&rt, &own, &longer, &book, Q_COUNTS).note("Q and a byte")?;
+    check_unbound(&rt, "P", 0, &own, P, &book, Q_COUNTS)?;
+    check_unbound(&rt, "E alone", 0, &own, b"E\0\0", &book, Q_COUNTS)?;
+    check_unbound(&rt, "Q and a byte", 0, &own, &longer, &book, Q_COUNTS)?;
     assert_eq!(rt; book.take(b"X"), Err(refusal(4, 0)));
     let none = counts_of([0, 0, 0, 0, 0, 0]);
-    check_unbound(&rt, &own, b"X", &book, none).note("blank tables of a refused deck")
+    check_unbound(
+        &rt,
+        "blank tables of a refused deck",
+        0,
+        &own,
+        b"X",
+        &book,
+        none,
+    )
 }
 
 // A table that intake refuses as too small, though Q's entries are in it.
@@ -162,10 +172,10 @@ fn small_tables_are_not_bound(rt: HostRuntime) -> Result<(), Fail> {
     let own = book_of(&rt, heap, P, P_COUNTS)?;
     let mut book = book_of(&rt, heap, Q, Q_COUNTS)?;
     let _ = book.groups.pop();
-    check_unbound(&rt, &own, Q, &book, Q_COUNTS).note("63 groups")?;
+    check_unbound(&rt, "groups", 63, &own, Q, &book, Q_COUNTS)?;
     let mut other = book_of(&rt, heap, Q, Q_COUNTS)?;
     let _ = other.bars.pop();
-    check_unbound(&rt, &own, Q, &other, Q_COUNTS).note("127 bars")
+    check_unbound(&rt, "bars", 127, &own, Q, &other, Q_COUNTS)
 }
 
 // A place that held nothing but E alone keeps that.

@@ -62,14 +62,21 @@ pub fn judged(deck: &[u8]) -> Result<Counts, Refusal> {
     }
 }
 
-pub fn refused(rt: &impl Abort, deck: &[u8], number: u8, place: usize) -> Result<(), Fail> {
-    assert_eq!(rt; judged(deck), Err(refusal(number, place)));
+// `what` and `at` say which deck it is.
+pub fn refused(
+    rt: &impl Abort,
+    what: &str,
+    at: usize,
+    deck: &[u8],
+    fault: Refusal,
+) -> Result<(), Fail> {
+    assert_eq!(rt; judged(deck), Err(fault), "{what} {at}");
     Ok(())
 }
 
-pub fn all_refused(rt: &impl Abort, cases: &[Case]) -> Result<(), Fail> {
+pub fn all_refused(rt: &impl Abort, what: &str, cases: &[Case]) -> Result<(), Fail> {
     for (i, case) in cases.iter().enumerate() {
-        refused(rt, case.0, case.1, case.2).note(format_args!("case {i}"))?;
+        refused(rt, what, i, case.0, refusal(case.1, case.2))?;
     }
     Ok(())
 }

@@ -43,11 +43,11 @@ const NONE: Tables<'static> = Tables {
 };
 
 // Tables that are too small are told of first, and left as they were.
-fn check_small(rt: &impl Abort, heap: Global, deck: &[u8]) -> Result<(), Fail> {
+fn check_small(rt: &impl Abort, what: &str, heap: Global, deck: &[u8]) -> Result<(), Fail> {
     for (i, sizes) in SMALL.iter().enumerate() {
         let mut book = Book::old(heap, counts_of(*sizes))?;
-        assert_eq!(rt; book.take(deck), Err(refusal(1, 0)), "sizes {i}");
-        assert!(rt; book.is_old(), "sizes {i}");
+        assert_eq!(rt; book.take(deck), Err(refusal(1, 0)), "{what}, sizes {i}");
+        assert!(rt; book.is_old(), "{what}, sizes {i}");
     }
     Ok(())
 }
@@ -55,11 +55,11 @@ fn check_small(rt: &impl Abort, heap: Global, deck: &[u8]) -> Result<(), Fail> {
 #[test]
 fn small_tables_stay(rt: HostRuntime) -> Result<(), Fail> {
     let heap = rt.alloc();
-    check_small(&rt, heap, P).note("accepted elsewhere")?;
-    check_small(&rt, heap, b"").note("no byte")?;
-    check_small(&rt, heap, b"X").note("no kind")?;
+    check_small(&rt, "accepted elsewhere", heap, P)?;
+    check_small(&rt, "no byte", heap, b"")?;
+    check_small(&rt, "no kind", heap, b"X")?;
     let long = vec![in heap; b'X'; 15364]?;
-    check_small(&rt, heap, &long).note("too long")
+    check_small(&rt, "too long", heap, &long)
 }
 
 // A group more than the most.
@@ -95,11 +95,15 @@ const REFUSED: [Case; 10] = [
 ];
 
 // Every entry is blank after such a refusal.
-fn check_blanked(rt: &impl Abort, heap: Global, sizes: Counts) -> Result<(), Fail> {
+fn check_blanked(rt: &impl Abort, what: &str, heap: Global, sizes: Counts) -> Result<(), Fail> {
     for (i, case) in REFUSED.iter().enumerate() {
         let mut book = Book::old(heap, sizes)?;
-        assert_eq!(rt; book.take(case.0), Err(refusal(case.1, case.2)));
-        assert!(rt; book.holds(NONE), "case {i}");
+        assert_eq!(rt;
+            book.take(case.0),
+            Err(refusal(case.1, case.2)),
+            "{what}, case {i}"
+        );
+        assert!(rt; book.holds(NONE), "{what}, case {i}");
     }
     Ok(())
 }
@@ -107,8 +111,8 @@ fn check_blanked(rt: &impl Abort, heap: Global, sizes: Counts) -> Result<(), Fai
 #[test]
 fn refused_decks_leave_blanks(rt: HostRuntime) -> Result<(), Fail> {
     let heap = rt.alloc();
-    check_blanked(&rt, heap, LEAST).note("least sizes")?;
-    check_blanked(&rt, heap, LONGER).note("longer tables")?;
+    check_blanked(&rt, "least sizes", heap, LEAST)?;
+    check_blanked(&rt, "longer tables", heap, LONGER)?;
     let mut book = Book::old(heap, LONGER)?;
     let long = vec![in heap; b'X'; 15364]?;
     assert_eq!(rt; book.take(&long), Err(refusal(2, 0)));
@@ -120,8 +124,8 @@ fn refused_decks_leave_blanks(rt: HostRuntime) -> Result<(), Fail> {
     Ok(())
 }
 
-fn check_p(rt: &impl Abort, book: &mut Book) {
-    assert_eq!(rt; book.take(P), Ok(P_COUNTS));
+fn check_p(rt: &impl Abort, what: &str, book: &mut Book) {
+    assert_eq!(rt; book.take(P), Ok(P_COUNTS), "{what}");
     let groups = p_groups();
     let trainees = p_trainees();
     let contracts = p_contracts();
@@ -133,11 +137,11 @@ fn check_p(rt: &impl Abort, book: &mut Book) {
         contracts: &contracts,
         bars: &[],
     };
-    assert!(rt; book.holds(fronts), "P");
+    assert!(rt; book.holds(fronts), "{what}, P");
 }
 
-fn check_q(rt: &impl Abort, book: &mut Book) {
-    assert_eq!(rt; book.take(Q), Ok(Q_COUNTS));
+fn check_q(rt: &impl Abort, what: &str, book: &mut Book) {
+    assert_eq!(rt; book.take(Q), Ok(Q_COUNTS), "{what}");
     let groups = q_groups();
     let trainees = q_trainees();
     let contracts = q_contracts();
@@ -149,26 +153,26 @@ fn check_q(rt: &impl Abort, book: &mut Book) {
         contracts: &contracts,
         bars: &Q_BARS,
     };
-    assert!(rt; book.holds(fronts), "Q");
+    assert!(rt; book.holds(fronts), "{what}, Q");
 }
 
-fn check_end(rt: &impl Abort, book: &mut Book) {
+fn check_end(rt: &impl Abort, what: &str, book: &mut Book) {
     assert_eq!(rt; book.take(b"E\0\0"), Ok(counts_of([0, 0, 0, 0, 0, 0])));
-    assert!(rt; book.holds(NONE), "E alone");
+    assert!(rt; book.holds(NONE), "{what}, E alone");
 }
 
 // Whatever the tables held before, only the deck's entries are there after.
-fn check_filled(rt: &impl Abort, heap: Global, sizes: Counts) -> Result<(), Fail> {
+fn check_filled(rt: &impl Abort, what: &str, heap: Global, sizes: Counts) -> Result<(), Fail> {
     let mut book = Book::old(heap, sizes)?;
-    check_p(rt, &mut book);
-    check_q(rt, &mut book);
-    check_p(rt, &mut book);
-    check_end(rt, &mut book);
+    check_p(rt, what, &mut book);
+    check_q(rt, what, &mut book);
+    check_p(rt, what, &mut book);
+    check_end(rt, what, &mut book);
     Ok(())
 }
 
 #[test]
 fn accepted_decks_fill(rt: HostRuntime) -> Result<(), Fail> {
-    check_filled(&rt, rt.alloc(), LEAST).note("least sizes")?;
-    check_filled(&rt, rt.alloc(), LONGER).note("longer tables")
+    check_filled(&rt, "least sizes", rt.alloc(), LEAST)?;
+    check_filled(&rt, "longer tables", rt.alloc(), LONGER)
 }

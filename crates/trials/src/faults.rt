@@ -176,30 +176,30 @@ const TRAILING: [Case; 7] = [
 
 #[test]
 fn bytes_of_a_record(rt: HostRuntime) -> Result<(), Fail> {
-    all_refused(&rt, &NO_BYTE).note("no byte")?;
-    all_refused(&rt, &NO_KIND).note("no kind")?;
-    all_refused(&rt, &SHORT).note("short")
+    all_refused(&rt, "no byte", &NO_BYTE)?;
+    all_refused(&rt, "no kind", &NO_KIND)?;
+    all_refused(&rt, "short", &SHORT)
 }
 
 #[test]
 fn places_of_a_record(rt: HostRuntime) -> Result<(), Fail> {
-    all_refused(&rt, &MISPLACED)
+    all_refused(&rt, "misplaced", &MISPLACED)
 }
 
 #[test]
 fn ranges_of_fields(rt: HostRuntime) -> Result<(), Fail> {
-    all_refused(&rt, &GROUP_RANGE).note("groups")?;
-    all_refused(&rt, &PLACE_RANGE).note("seats and reserves")?;
-    all_refused(&rt, &TRAINEE_RANGE).note("trainees")
+    all_refused(&rt, "groups", &GROUP_RANGE)?;
+    all_refused(&rt, "seats and reserves", &PLACE_RANGE)?;
+    all_refused(&rt, "trainees", &TRAINEE_RANGE)
 }
 
 #[test]
 fn repeats_of_records(rt: HostRuntime) -> Result<(), Fail> {
-    all_refused(&rt, &REPEATS)
+    all_refused(&rt, "repeats", &REPEATS)
 }
 
 #[test]
 fn ends_of_decks(rt: HostRuntime) -> Result<(), Fail> {
-    all_refused(&rt, &WRONG_COUNT).note("wrong count")?;
-    all_refused(&rt, &TRAILING).note("trailing")
+    all_refused(&rt, "wrong count", &WRONG_COUNT)?;
+    all_refused(&rt, "trailing", &TRAILING)
 }

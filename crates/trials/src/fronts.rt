@@ -1,5 +1,5 @@
 // Decks cut at every byte.
-use crate::case::refused;
+use crate::case::{refusal, refused};
 use crate::samples::{P, P_STARTS, Q, Q_STARTS};
 use std::process::Abort;
 use std::test::Fail;
@@ -20,7 +20,7 @@ fn fronts_refused(rt: &impl Abort, deck: &[u8], starts: &[usize]) -> Result<(), 
     for end in 0..deck.len() {
         let start = last_start(starts, end);
         let number = if start == end { 3 } else { 6 };
-        refused(rt, &deck[0..end], number, start).note(format_args!("cut at {end}"))?;
+        refused(rt, "cut at", end, &deck[0..end], refusal(number, start))?;
     }
     Ok(())
 }

@@ -108,11 +108,17 @@ const BAR_ENDS: [Case; 4] = [
     Case(b"B", 6, 1048),
 ];
 
-fn ends_refused(rt: &impl Abort, heap: Global, shape: Shape, ends: &[Case]) -> Result<(), Fail> {
+fn ends_refused(
+    rt: &impl Abort,
+    what: &str,
+    heap: Global,
+    shape: Shape,
+    ends: &[Case],
+) -> Result<(), Fail> {
     for (i, end) in ends.iter().enumerate() {
         let mut deck = built(heap, shape)?;
         deck.extend_from_slice(end.0)?;
-        refused(rt, &deck, end.1, end.2).note(format_args!("case {i}"))?;
+        refused(rt, what, i, &deck, refusal(end.1, end.2))?;
     }
     Ok(())
 }
@@ -120,12 +126,12 @@ fn ends_refused(rt: &impl Abort, heap: Global, shape: Shape, ends: &[Case]) -> R
 #[test]
 fn one_more_than_the_most(rt: HostRuntime) -> Result<(), Fail> {
     let heap = rt.alloc();
-    ends_refused(&rt, heap, GROUPS, &GROUP_ENDS).note("groups")?;
-    ends_refused(&rt, heap, SEATS, &SEAT_ENDS).note("seats")?;
-    ends_refused(&rt, heap, RESERVES, &RESERVE_ENDS).note("reserves")?;
-    ends_refused(&rt, heap, TRAINEES, &TRAINEE_ENDS).note("trainees")?;
-    ends_refused(&rt, heap, WISHES, &WISH_ENDS).note("wishes")?;
-    ends_refused(&rt, heap, BARS, &BAR_ENDS).note("bars")
+    ends_refused(&rt, "groups", heap, GROUPS, &GROUP_ENDS)?;
+    ends_refused(&rt, "seats", heap, SEATS, &SEAT_ENDS)?;
+    ends_refused(&rt, "reserves", heap, RESERVES, &RESERVE_ENDS)?;
+    ends_refused(&rt, "trainees", heap, TRAINEES, &TRAINEE_ENDS)?;
+    ends_refused(&rt, "wishes", heap, WISHES, &WISH_ENDS)?;
+    ends_refused(&rt, "bars", heap, BARS, &BAR_ENDS)
 }
 
 // A shape, the E that closes its deck, and the counts.
@@ -211,7 +217,7 @@ fn ends_of_the_largest(rt: HostRuntime) -> Result<(), Fail> {
     for (i, end) in LARGEST_ENDS.iter().enumerate() {
         let mut deck = front.clone()?;
         deck.extend_from_slice(end.0)?;
-        refused(&rt, &deck, end.1, end.2).note(format_args!("case {i}"))?;
+        refused(&rt, "end", i, &deck, refusal(end.1, end.2))?;
     }
     Ok(())
 }
