@@ -7,9 +7,9 @@ use strip::row::Full;
 
 // Takes one after another until nobody waits, and answers how many it took.
 pub fn drain<L: Line>(line: &mut L) -> usize
-    ensures places { places line.new ≡ places line.old }
-    ensures empty { waiting line.new ≡ [] }
-    ensures all { result ≡ length (waiting line.old) }
+    ensures places { L.places line.new ≡ L.places line.old }
+    ensures empty { L.waiting line.new ≡ [] }
+    ensures all { result ≡ length (L.waiting line.old) }
 {
     let n = line.count();
     while let Some(_t) = line.take() {}
@@ -18,7 +18,7 @@ pub fn drain<L: Line>(line: &mut L) -> usize
 
 // Whether there are places for n more.
 fn has_room<L: Line>(line: &L, n: usize) -> bool
-    ensures { Decides result (n + length (waiting line.now) ≤ places line.now) }
+    ensures { Decides result (n + length (L.waiting line.now) ≤ L.places line.now) }
 {
     let places = line.places();
     let count = line.count();
@@ -27,8 +27,8 @@ fn has_room<L: Line>(line: &L, n: usize) -> bool
 
 // The trainees of a list join in its order, where there are places for all of them; else nobody does.
 pub fn join_all<L: Line>(line: &mut L, trainees: &[u16]) -> Result<(), Full>
-    ensures places { places line.new ≡ places line.old }
-    ensures joined { AllJoined joins (places line.old) (waiting line.old) trainees.now result (waiting line.new) }
+    ensures places { L.places line.new ≡ L.places line.old }
+    ensures joined { AllJoined L.joins (L.places line.old) (L.waiting line.old) trainees.now result (L.waiting line.new) }
 {
     if !has_room(line, trainees.len()) {
         return Err(Full::NoPlace);

@@ -3,7 +3,6 @@ use line::line::Line;
 use line::queue::Queue;
 use line::stack::Stack;
 use std::process::Abort;
-use std::test::Fail;
 use strip::row::{Full, Strip};
 
 pub fn tells<L: Line>(rt: &impl Abort, line: &L, places: usize, count: usize) {
@@ -28,44 +27,46 @@ pub fn taken<L: Line>(rt: &impl Abort, line: &mut L, trainees: &[u16]) {
 }
 
 // Three places: 7 waits twice, and there is no place for 4.
-fn filled<L: Line>(rt: &impl Abort, line: &mut L) -> Result<(), Fail> {
-    tells(rt, line, 3, 0);
-    assert_eq!(rt; line.take(), None);
-    joined(rt, line, &[7, 7, 65535]);
-    tells(rt, line, 3, 3);
-    assert_eq!(rt; line.join(4), Err(Full::NoPlace));
-    tells(rt, line, 3, 3);
-    Ok(())
+fn filled<L: Line>(rt: &impl Abort, line: &mut L, round: u8) {
+    assert_eq!(rt; line.places(), 3, "round {round}");
+    assert_eq!(rt; line.count(), 0, "round {round}");
+    assert_eq!(rt; line.take(), None, "round {round}");
+    for t in &[7, 7, 65535] {
+        assert_eq!(rt; line.join(*t), Ok(()), "trainee {t}, round {round}");
+    }
+    assert_eq!(rt; line.places(), 3, "round {round}");
+    assert_eq!(rt; line.count(), 3, "round {round}");
+    assert_eq!(rt; line.join(4), Err(Full::NoPlace), "round {round}");
+    assert_eq!(rt; line.places(), 3, "round {round}");
+    assert_eq!(rt; line.count(), 3, "round {round}");
 }
 
 #[test]
-fn a_queue_takes_the_oldest(rt: HostRuntime) -> Result<(), Fail> {
+fn a_queue_takes_the_oldest(rt: HostRuntime) {
     let mut memory = [9; 3];
     let mut row = Strip::new(&mut memory);
     let mut line = Queue::new(&mut row);
-    filled(&rt, &mut line)?;
+    filled(&rt, &mut line, 1);
     assert_eq!(rt; line.take(), Some(7));
     joined(&rt, &mut line, &[0]);
     taken(&rt, &mut line, &[7, 65535, 0]);
-    filled(&rt, &mut line).note("again")?;
+    filled(&rt, &mut line, 2);
     taken(&rt, &mut line, &[7, 7, 65535]);
     tells(&rt, &line, 3, 0);
-    Ok(())
 }
 
 #[test]
-fn a_stack_takes_the_newest(rt: HostRuntime) -> Result<(), Fail> {
+fn a_stack_takes_the_newest(rt: HostRuntime) {
     let mut memory = [9; 3];
     let mut row = Strip::new(&mut memory);
     let mut line = Stack::new(&mut row);
-    filled(&rt, &mut line)?;
+    filled(&rt, &mut line, 1);
     assert_eq!(rt; line.take(), Some(65535));
     joined(&rt, &mut line, &[0]);
     taken(&rt, &mut line, &[0, 7, 7]);
-    filled(&rt, &mut line).note("again")?;
+    filled(&rt, &mut line, 2);
     taken(&rt, &mut line, &[65535, 7, 7]);
     tells(&rt, &line, 3, 0);
-    Ok(())
 }
 
 // Those in the strip wait already; a line that is let go leaves them there.

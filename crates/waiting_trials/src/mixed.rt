@@ -7,36 +7,54 @@ use std::process::Abort;
 use std::test::Fail;
 use strip::row::{Full, Strip};
 
-// The strip tells just what the list has, and reads none past its end.
+#[derive(Clone, Copy, Debug)]
+enum Elements {
+    Bytes,
+    Numbers,
+    Pairs,
+}
+
+// Where a trial stands: what the strip has, how many places, and which turn it is.
+#[derive(Clone, Copy, Debug)]
+struct Stage {
+    elements: Elements,
+    places: usize,
+    turn: usize,
+}
+
+// After a turn the strip tells just what the list has, and reads none past its end.
 fn agree<'a, T: Copy + PartialEq + Debug + Drop>(
     rt: &impl Abort,
     strip: &Strip<'a, T>,
     list: &[T],
-    places: usize,
-) -> Result<(), Fail> {
-    assert_eq!(rt; strip.places(), places);
-    assert_eq!(rt; strip.count(), list.len());
-    assert_eq!(rt; Some(strip.free()), places.checked_sub(list.len()));
+    at: Stage,
+) {
+    assert_eq!(rt; strip.places(), at.places, "after {at:?}");
+    assert_eq!(rt; strip.count(), list.len(), "after {at:?}");
+    assert_eq!(rt;
+        Some(strip.free()),
+        at.places.checked_sub(list.len()),
+        "after {at:?}"
+    );
     for (k, item) in list.iter().enumerate() {
-        assert_eq!(rt; strip.read(k), Some(*item), "number {k}");
+        assert_eq!(rt; strip.read(k), Some(*item), "number {k} after {at:?}");
     }
-    assert_eq!(rt; strip.read(list.len()), None, "one past");
-    Ok(())
+    assert_eq!(rt; strip.read(list.len()), None, "one past, after {at:?}");
 }
 
 fn put<'a, T: Copy + PartialEq + Debug + Drop>(
     rt: &impl Abort,
     strip: &mut Strip<'a, T>,
     list: &mut Vec<T>,
-    places: usize,
+    at: Stage,
     item: T,
 ) -> Result<(), Fail> {
-    if list.len() >= places {
-        assert_eq!(rt; strip.put(item), Err(Full::NoPlace));
+    if list.len() >= at.places {
+        assert_eq!(rt; strip.put(item), Err(Full::NoPlace), "{at:?}");
         return Ok(());
     }
     list.push(item)?;
-    assert_eq!(rt; strip.put(item), Ok(()));
+    assert_eq!(rt; strip.put(item), Ok(()), "{at:?}");
     Ok(())
 }
 
@@ -53,17 +71,17 @@ fn turn<'a, T: Sample + Copy + PartialEq + Debug + Drop>(
     rt: &impl Abort,
     strip: &mut Strip<'a, T>,
     list: &mut Vec<T>,
-    places: usize,
+    at: Stage,
     x: u8,
 ) -> Result<(), Fail> {
     match x / 64 {
-        0 | 1 => put(rt, strip, list, places, T::of(x)),
+        0 | 1 => put(rt, strip, list, at, T::of(x)),
         2 => {
-            assert_eq!(rt; strip.take_oldest(), oldest(list), "the oldest");
+            assert_eq!(rt; strip.take_oldest(), oldest(list), "the oldest, {at:?}");
             Ok(())
         },
         _ => {
-            assert_eq!(rt; strip.take_newest(), list.pop(), "the newest");
+            assert_eq!(rt; strip.take_newest(), list.pop(), "the newest, {at:?}");
             Ok(())
         },
     }
@@ -73,6 +91,7 @@ fn turn<'a, T: Sample + Copy + PartialEq + Debug + Drop>(
 fn follows<T: Sample + Copy + Clone + PartialEq + Debug + Drop>(
     rt: &impl Abort,
     heap: Global,
+    elements: Elements,
     places: usize,
 ) -> Result<(), Fail> {
     let mut memory = vec![in heap; T::of(0); places]?;
@@ -80,9 +99,14 @@ fn follows<T: Sample + Copy + Clone + PartialEq + Debug + Drop>(
     let mut list = Vec::new(heap);
     let mut x: u8 = 0;
     for i in 0..256 {
+        let at = Stage {
+            elements,
+            places,
+            turn: i,
+        };
         x = x.wrapping_mul(5).wrapping_add(3);
-        turn(rt, &mut strip, &mut list, places, x).note(format_args!("turn {i}"))?;
-        agree(rt, &strip, &list, places).note(format_args!("after turn {i}"))?;
+        turn(rt, &mut strip, &mut list, at, x)?;
+        agree(rt, &strip, &list, at);
     }
     Ok(())
 }
@@ -90,16 +114,17 @@ fn follows<T: Sample + Copy + Clone + PartialEq + Debug + Drop>(
 fn all_follow<T: Sample + Copy + Clone + PartialEq + Debug + Drop>(
     rt: &impl Abort,
     heap: Global,
+    elements: Elements,
 ) -> Result<(), Fail> {
-    follows::<T>(rt, heap, 0).note("no place")?;
-    follows::<T>(rt, heap, 1).note("1 place")?;
-    follows::<T>(rt, heap, 2).note("2 places")?;
-    follows::<T>(rt, heap, 7).note("7 places")
+    follows::<T>(rt, heap, elements, 0)?;
+    follows::<T>(rt, heap, elements, 1)?;
+    follows::<T>(rt, heap, elements, 2)?;
+    follows::<T>(rt, heap, elements, 7)
 }
 
 #[test]
 fn strips_follow_a_list(rt: HostRuntime) -> Result<(), Fail> {
-    all_follow::<u8>(&rt, rt.alloc()).note("bytes")?;
-    all_follow::<u16>(&rt, rt.alloc()).note("numbers")?;
-    all_follow::<TurnedDown>(&rt, rt.alloc()).note("pairs")
+    all_follow::<u8>(&rt, rt.alloc(), Elements::Bytes)?;
+    all_follow::<u16>(&rt, rt.alloc(), Elements::Numbers)?;
+    all_follow::<TurnedDown>(&rt, rt.alloc(), Elements::Pairs)
 }

@@ -1,4 +1,4 @@
-use Rattle.std.proofs.Common.{◌+◌, ◌-◌, [], ◌∷◌, ◌++◌, sym, ap, ◌∙◌, arith}
+use Rattle.std.proofs.Common.{◌-◌, [], ◌∷◌, ◌++◌, sym, ap, ◌∙◌, arith}
 use Rattle.strip.specs.Ring.{ringed}
 use Rattle.strip.proofs.row.Strip.newest.Goals as goal
 use Rattle.strip.proofs.Rings.{length-ringed, ringed_newest}
