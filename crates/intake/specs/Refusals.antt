@@ -11,8 +11,8 @@ use Rattle.intake.specs.declared.fault.DeckFault.TheVariants.{Records, SmallTabl
 abbrev pub by_deck : ℕ → ℕ → Refusal
 by_deck n p = record { number = n; place = p; layer = L.Deck }
 
-abbrev pub deck_of : RecordFault → DeckFault
-deck_of f = Records f
+abbrev pub deck_fault_of : RecordFault → DeckFault
+deck_fault_of f = Records f
 
 abbrev pub refusal : DeckFault → Refusal
 refusal (Records f) = record_refusal f

@@ -1,5 +1,5 @@
 // How many entries of each table a deck fills.
-ghost use Rattle.intake.specs.Firsts.{firsts as firstsOf};
+ghost use Rattle.intake.specs.Firsts.{firsts as firsts_of};
 ghost use Rattle.rules.specs.Contents.{content_of};
 ghost use Rattle.std.specs.Prelude.{◌≡◌, take};
 
@@ -37,7 +37,7 @@ fn front<T>(entries: &[T], n: usize) -> &[T]
 impl Counts {
     // The first entries of the tables, as many as are counted.
     pub fn firsts<'a>(self, tables: Tables<'a>) -> Tables<'a>
-        ensures { content_of result ≡ firstsOf self (content_of tables.entry) }
+        ensures { content_of result ≡ firsts_of self (content_of tables.entry) }
     {
         Tables {
             groups: front(tables.groups, self.groups),

@@ -1,5 +1,5 @@
 // A fault of the deck layer, with one of the record layer whole.
-ghost use Rattle.intake.specs.Refusals.{by_deck, deck_of, refusal as refusalOf};
+ghost use Rattle.intake.specs.Refusals.{by_deck, deck_fault_of, refusal as refusal_of};
 ghost use Rattle.std.specs.Prelude.{◌≡◌};
 
 use format::fault::{Layer, Refusal};
@@ -16,7 +16,7 @@ pub enum DeckFault {
 }
 
 impl From<RecordFault> for DeckFault {
-    ghost from_gives = { λ x y. y ≡ deck_of x };
+    ghost from_gives = { λ x y. y ≡ deck_fault_of x };
 
     fn from(f: RecordFault) -> DeckFault {
         DeckFault::Records(f)
@@ -36,7 +36,7 @@ fn at(number: u8, place: usize) -> Refusal
 
 impl DeckFault {
     pub fn refusal(&self) -> Refusal
-        ensures { result ≡ refusalOf self.now }
+        ensures { result ≡ refusal_of self.now }
     {
         match self {
             DeckFault::Records(f) => f.refusal(),

@@ -67,9 +67,15 @@ fn bound_decks_are_read(rt: HostRuntime) -> Result<(), Fail> {
     Ok(())
 }
 
-fn book_of(rt: &impl Abort, heap: Global, deck: &[u8], counts: Counts) -> Result<Book, Fail> {
+fn book_of(
+    rt: &impl Abort,
+    what: &str,
+    heap: Global,
+    deck: &[u8],
+    counts: Counts,
+) -> Result<Book, Fail> {
     let mut book = Book::old(heap, LEAST)?;
-    assert_eq!(rt; book.take(deck), Ok(counts));
+    assert_eq!(rt; book.take(deck), Ok(counts), "{what}");
     Ok(book)
 }
 
@@ -84,7 +90,11 @@ fn check_unbound<'a>(
     counts: Counts,
 ) -> Result<(), Fail> {
     let mut place = Deck::empty();
-    assert_eq!(rt; told(place.bind(P, own.tables(), P_COUNTS)), Ok(()));
+    assert_eq!(rt;
+        told(place.bind(P, own.tables(), P_COUNTS)),
+        Ok(()),
+        "{what} {number}"
+    );
     let answer = told(place.bind(deck, book.tables(), counts));
     assert_eq!(rt; answer, Err(refusal(12, 0)), "{what} {number}");
     assert_eq!(rt; place.groups().len(), 3, "{what} {number}");
@@ -94,9 +104,9 @@ fn check_unbound<'a>(
 
 // Q's tables with another entry at this place of each.
 fn check_marked(rt: &impl Abort, what: &str, heap: Global, at: usize) -> Result<(), Fail> {
-    let own = book_of(rt, heap, P, P_COUNTS)?;
+    let own = book_of(rt, what, heap, P, P_COUNTS)?;
     for table in 0..6 {
-        let mut book = book_of(rt, heap, Q, Q_COUNTS)?;
+        let mut book = book_of(rt, what, heap, Q, Q_COUNTS)?;
         book.mark(table, at);
         check_unbound(rt, what, table, &own, Q, &book, Q_COUNTS)?;
     }
@@ -132,8 +142,8 @@ const OTHER_COUNTS: [[usize; 6]; 13] = [
 
 #[test]
 fn changed_counts_are_not_bound(rt: HostRuntime) -> Result<(), Fail> {
-    let own = book_of(&rt, rt.alloc(), P, P_COUNTS)?;
-    let book = book_of(&rt, rt.alloc(), Q, Q_COUNTS)?;
+    let own = book_of(&rt, "P", rt.alloc(), P, P_COUNTS)?;
+    let book = book_of(&rt, "Q", rt.alloc(), Q, Q_COUNTS)?;
     for (i, row) in OTHER_COUNTS.iter().enumerate() {
         let counts = counts_of(*row);
         check_unbound(&rt, "counts", i, &own, Q, &book, counts)?;
@@ -145,8 +155,8 @@ fn changed_counts_are_not_bound(rt: HostRuntime) -> Result<(), Fail> {
 #[test]
 fn other_bytes_are_not_bound(rt: HostRuntime) -> Result<(), Fail> {
     let heap = rt.alloc();
-    let own = book_of(&rt, heap, P, P_COUNTS)?;
-    let mut book = book_of(&rt, heap, Q, Q_COUNTS)?;
+    let own = book_of(&rt, "P", heap, P, P_COUNTS)?;
+    let mut book = book_of(&rt, "Q", heap, Q, Q_COUNTS)?;
     let mut longer = Vec::from_slice(heap, Q)?;
     longer.push(0)?;
     check_unbound(&rt, "P", 0, &own, P, &book, Q_COUNTS)?;
@@ -169,11 +179,11 @@ fn other_bytes_are_not_bound(rt: HostRuntime) -> Result<(), Fail> {
 #[test]
 fn small_tables_are_not_bound(rt: HostRuntime) -> Result<(), Fail> {
     let heap = rt.alloc();
-    let own = book_of(&rt, heap, P, P_COUNTS)?;
-    let mut book = book_of(&rt, heap, Q, Q_COUNTS)?;
+    let own = book_of(&rt, "P", heap, P, P_COUNTS)?;
+    let mut book = book_of(&rt, "Q", heap, Q, Q_COUNTS)?;
     let _ = book.groups.pop();
     check_unbound(&rt, "groups", 63, &own, Q, &book, Q_COUNTS)?;
-    let mut other = book_of(&rt, heap, Q, Q_COUNTS)?;
+    let mut other = book_of(&rt, "Q", heap, Q, Q_COUNTS)?;
     let _ = other.bars.pop();
     check_unbound(&rt, "bars", 127, &own, Q, &other, Q_COUNTS)
 }

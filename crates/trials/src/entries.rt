@@ -157,7 +157,11 @@ fn check_q(rt: &impl Abort, what: &str, book: &mut Book) {
 }
 
 fn check_end(rt: &impl Abort, what: &str, book: &mut Book) {
-    assert_eq!(rt; book.take(b"E\0\0"), Ok(counts_of([0, 0, 0, 0, 0, 0])));
+    assert_eq!(rt;
+        book.take(b"E\0\0"),
+        Ok(counts_of([0, 0, 0, 0, 0, 0])),
+        "{what}"
+    );
     assert!(rt; book.holds(NONE), "{what}, E alone");
 }
 
