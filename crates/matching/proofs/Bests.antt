@@ -1,10 +1,10 @@
 -- Two best lists are the same.
-use Rattle.std.proofs.Common.{◌≡◌, ℕ, ◌<◌, ◌≤◌, Bool, true, false, ◌⊎◌, sym, refl, ap, ◌∙◌, subst, inl, inr, ⊎_elim, arith}
+use Rattle.std.proofs.Common.{◌≡◌, ℕ, ◌<◌, ◌≤◌, true, false, sym, refl, ◌∙◌, subst, ⊎_elim, arith}
 use mathlib.Core.Path.{fun_ext}
-use Rattle.std.proofs.lemmas.Bool.{cases_Bool, cases_lt, both_ways}
+use Rattle.std.proofs.lemmas.Bool.{cases_lt, both_ways}
 use Rattle.matching.specs.Sets.{Set}
 use Rattle.matching.specs.Choices.{Choice}
-use Rattle.matching.specs.Market.{Market, Known, Better, Likes, Stable, Best}
+use Rattle.matching.specs.Market.{Market, Known, Better, Best}
 use Rattle.matching.specs.Facts.{OneBest}
 use Rattle.matching.proofs.Sets.{same_bool, inside}
 

@@ -1,9 +1,9 @@
 -- The first few by an order: a lawful choice.
-use Rattle.std.proofs.Common.{◌≡◌, ℕ, ◌<◌, ◌≤◌, Bool, true, false, not, ◌&&◌, eqb, ltb, ◌⊎◌, sym, refl, ap, ◌∙◌, subst, inl, inr, ⊎_elim, arith}
+use Rattle.std.proofs.Common.{◌≡◌, ℕ, ◌<◌, ◌≤◌, Bool, true, false, ◌&&◌, ltb, sym, ap, ◌∙◌, subst, ⊎_elim, arith}
 use mathlib.Core.Path.{fun_ext}
 use Rattle.std.proofs.lemmas.Bool.{and_parts, and_from, and_left, and_right, and_cases, not_from_true, cases_Bool, cases_eq, both_ways, eq-eqb, ltb-true, ltb-false, lt-ltb}
-use Rattle.matching.specs.Sets.{Set, less, Part, Within}
-use Rattle.matching.specs.Choices.{Choice, KeepsPart, Substitutable, Lawful, Strict, ahead, first}
+use Rattle.matching.specs.Sets.{Set, less}
+use Rattle.matching.specs.Choices.{KeepsPart, Substitutable, Lawful, Strict, ahead, first}
 use Rattle.matching.specs.Facts.{FirstLawful}
 use Rattle.matching.proofs.Sets.{same_bool, less_other, less_of}
 use Rattle.matching.proofs.Sums.{passing_le}

@@ -1,11 +1,9 @@
 -- Choices made of lawful choices are lawful.
-use Rattle.std.proofs.Common.{◌≡◌, ℕ, Bool, true, false, not, ◌&&◌, ◌||◌, ◌⊎◌, sym, refl, ap, ◌∙◌, subst, inl, inr}
-use mathlib.Core.Path.{fun_ext}
+use Rattle.std.proofs.Common.{◌≡◌, ◌&&◌, ap, ◌∙◌, inl, inr}
 use Rattle.std.proofs.lemmas.Bool.{both_ways, cases_Bool, and_parts, and_from, or_cases, or_parts, or_from, or_left, or_right}
-use Rattle.matching.specs.Sets.{Set, union, common, minus, Part, Within}
-use Rattle.matching.specs.Choices.{Choice, Lawful, without, over, beside}
+use Rattle.matching.specs.Sets.{Set, union, minus, Part, Within}
 use Rattle.matching.specs.Facts.{WithoutLawful, OverLawful, BesideLawful}
-use Rattle.matching.proofs.Sets.{outside, inside, minus_in, minus_of, minus_out, within_part}
+use Rattle.matching.proofs.Sets.{outside, minus_in, minus_of, minus_out, within_part}
 
 pub without-lawful : WithoutLawful
 without-lawful n B C law = record {

@@ -1,8 +1,7 @@
 -- Choosing twice, and choosing of shortlists.
-use Rattle.std.proofs.Common.{◌≡◌, ℕ, Bool, true, false, ◌||◌, ◌⊎◌, sym, ⊎_elim}
+use Rattle.std.proofs.Common.{sym, ⊎_elim}
 use Rattle.std.proofs.lemmas.Bool.{or_cases, or_left, or_right, cases_Bool, both_ways}
-use Rattle.matching.specs.Sets.{Set, union, Part, Within}
-use Rattle.matching.specs.Choices.{Choice, Lawful}
+use Rattle.matching.specs.Sets.{union, Part, Within}
 use Rattle.matching.specs.Facts.{Settled, PathIndependent}
 
 pub settled : Settled

@@ -1,11 +1,11 @@
 -- Irrelevance from the removal of one contract that is not kept.
-use Rattle.std.proofs.Common.{◌≡◌, ℕ, zero, suc, ◌<◌, ◌≤◌, Bool, true, false, not, ◌&&◌, ◌||◌, eqb, leb, ◌⊎◌, sym, refl, ap, ◌∙◌, subst, inl, inr, ⊎_elim, arith}
+use Rattle.std.proofs.Common.{◌≡◌, ℕ, zero, suc, true, false, not, ◌&&◌, ◌||◌, leb, ◌⊎◌, sym, refl, ap, ◌∙◌, subst, inl, inr, ⊎_elim, arith}
 use mathlib.Core.Path.{fun_ext}
 use Rattle.std.proofs.lemmas.Bool.{and_parts, and_from, and_left, and_right, or_left, or_right, or_from, not_from_true, cases_Bool, cases_eq, cases_lt, eq-eqb, ne_eqb, le-leb, lt-leb}
 use Rattle.matching.specs.Sets.{Set, less, Part, Within}
-use Rattle.matching.specs.Choices.{Choice, KeepsPart, Irrelevant}
+use Rattle.matching.specs.Choices.{Choice}
 use Rattle.matching.specs.Facts.{OneRemoved}
-use Rattle.matching.proofs.Sets.{out_of_part, and_true, or_true, within_part}
+use Rattle.matching.proofs.Sets.{out_of_part, and_true, or_true}
 
 -- X without what is below i and not in Y
 abbrev thinned : Set → Set → ℕ → Set

@@ -1,5 +1,5 @@
 -- A market of contracts between trainees and one board that chooses for all dredgers together: what a trainee likes better, and which lists are stable.
-use Rattle.std.specs.Prelude.{◌≡◌, ℕ, ◌<◌, Bool, true, false}
+use Rattle.std.specs.Prelude.{◌≡◌, ℕ, ◌<◌, true, false}
 use Rattle.matching.specs.Sets.{Set, add, Part, Within}
 use Rattle.matching.specs.Choices.{Choice}
 
