@@ -5,52 +5,22 @@ use Rattle.std.proofs.lemmas.List.{length-map, length-take-le, map_more, map_pus
 use Rattle.std.proofs.lemmas.List.Sorted.{sorted_far}
 use Rattle.std.proofs.lemmas.Bool.{eqb-true, false≢true}
 use Rattle.std.proofs.lemmas.Bool.Decides.{nat_tests}
-use Rattle.std.specs.Cmp.{IsTotalOrder, nat_cmp_total, pairs, alike_right, tied_back}
 use Rattle.std.specs.Ordering.{is_lt, is_eq, ordering_reverse, ordering_then, nat_cmp}
-use Rattle.std.specs.List.Sorted.{IsPermutation, IsSortedWithin}
+use Rattle.std.specs.List.Sorted.{IsPermutation, IsSorted}
 use Rattle.rules.specs.declared.table.Contract.{Contract}
 use Rattle.rules.specs.Contents.{contract_at}
 use Rattle.matching.specs.Sets.{Set, rising}
 use Rattle.ranking.specs.declared.key.Key.{Key}
 use Rattle.ranking.specs.Keys.{ranked, compared, key_at, numbers, Sorted, Placed}
 use Rattle.ranking.specs.Rank.{better, lower_lot, lower_term}
+use Rattle.ranking.specs.Total.{compared_total}
 use Rattle.ranking.specs.Rows.{precedes, Ordered, Front}
 use Rattle.ranking.proofs.Risings.{rising_in, rising_out, is, once, twice, get_or_mapped, shuffled_back}
 
--- ---- total
-
-abbrev downward : IsTotalOrder (λ (x y : ℕ) (r : Ordering). r ≡ nat_cmp y x)
-downward = record {
-  cmp = λ x y. nat_cmp y x;
-  says = λ x y r h. h;
-  flip = λ x y. nat_cmp_total.antisymm y x;
-  trans = λ x y z p q. nat_cmp_total.trans z y x q p;
-  alike = λ x y z p. alike_right nat_cmp_total x y z (tied_back nat_cmp_total y x p);
-}
-
-abbrev parts : Key → ℕ × (ℕ × (ℕ × (ℕ × ℕ)))
-parts a = (a.dredger, (a.term, (a.points, (a.lot, a.number))))
-
-pub compared_flip : (a b : Key) → compared a b ≡ ordering_reverse (compared b a)
-unfolding ranked
-compared_flip a b = (pairs nat_cmp_total (pairs nat_cmp_total (pairs downward (pairs nat_cmp_total nat_cmp_total)))).antisymm (parts a) (parts b)
-
-pub compared_trans : (a b c : Key) → compared a b ≡ Less → compared b c ≡ Less → compared a c ≡ Less
-unfolding ranked
-compared_trans a b c = (pairs nat_cmp_total (pairs nat_cmp_total (pairs downward (pairs nat_cmp_total nat_cmp_total)))).trans (parts a) (parts b) (parts c)
-
-pub compared_alike : (a b c : Key) → compared a b ≡ Equal → compared a c ≡ compared b c
-unfolding ranked
-compared_alike a b c = (pairs nat_cmp_total (pairs nat_cmp_total (pairs downward (pairs nat_cmp_total nat_cmp_total)))).congr (parts a) (parts b) (parts c)
-
-abbrev pub keys_total : IsTotalOrder (λ (a b : Key) (r : Ordering). r ≡ compared a b)
-keys_total = record { cmp = compared; says = λ a b r h. h; flip = compared_flip; trans = compared_trans; alike = compared_alike }
-
 -- what a sort of keys ensures
-pub rises_from_sort : (ks : List Key) (m : ℕ) → length ks ≡ m → IsSortedWithin (λ x y. is_lt (compared x y)) ks 0 m
+pub rises_from_sort : (ks : List Key) → IsSorted compared ks
     → (i j : ℕ) (d : Key) → i < j → j < length ks → is_lt (compared (get_or ks j d) (get_or ks i d)) ≡ false
-rises_from_sort ks m e up i j d l h =
-    sorted_far (λ x y. is_lt (compared x y)) (ranks_by keys_total (λ x. x)) ks (subst (IsSortedWithin (λ x y. is_lt (compared x y)) ks 0) (sym e) up) i j d (omega arith) h
+rises_from_sort ks up i j d l h = sorted_far (λ x y. is_lt (compared x y)) (ranks_by compared_total (λ x. x)) ks up i j d (omega arith) h
 
 -- ---- what it says of contracts
 
@@ -138,7 +108,7 @@ one_number a b h =
 
 -- of two keys with other numbers, the one that is not above the other is below it
 strictly : (a b : Key) → (a.number ≡ b.number → ⊥) → is_lt (compared b a) ≡ false → is_lt (compared a b) ≡ true
-strictly a b ne h = go (compared a b) refl (sym (ap is_lt (compared_flip b a)) ∙ h)
+strictly a b ne h = go (compared a b) refl (sym (ap is_lt (compared_total.antisymm b a)) ∙ h)
   where
     go : (o : Ordering) → compared a b ≡ o → is_lt (ordering_reverse (compared a b)) ≡ false → is_lt (compared a b) ≡ true
     go Less e f = ap is_lt e

@@ -1,9 +1,9 @@
 // The keys that a row is sorted by.
 ghost use Rattle.ranking.specs.Keys.{compared, key_of, ranked};
-ghost use Rattle.std.specs.Prelude.{◌≡◌, Some, refl};
-ghost use Rattle.std.specs.Cmp.Rules.{comparing};
-ghost use Rattle.std.proofs.Common.{rules};
+ghost use Rattle.ranking.specs.Total.{compared_ties, compared_total};
 ghost use Rattle.std.specs.Cmp.{partial_order_from_agreeing_total};
+ghost use Rattle.std.specs.Ordering.{as_partial_cmp};
+ghost use Rattle.std.specs.Prelude.{◌≡◌, refl};
 
 use rules::table::Contract;
 use std::cmp::Ordering;
@@ -45,9 +45,9 @@ fn order(x: u16, y: u16) -> Ordering
 }
 
 impl PartialOrd for Key {
-    ghost partial_cmp = { λ a b. Some (compared a b) };
+    ghost partial_cmp = { as_partial_cmp compared };
 
-    ghost laws = { partial_order_from_agreeing_total (λ a b. compared a b) (Prim.search (comparing, rules)) (λ _ _. refl) (Prim.search (comparing, rules)) };
+    ghost laws = { partial_order_from_agreeing_total compared compared_total (λ _ _. refl) compared_ties };
 
     fn partial_cmp(&self, other: &Key) -> Option<Ordering> {
         Some(self.cmp(other))
@@ -55,13 +55,13 @@ impl PartialOrd for Key {
 }
 
 impl Ord for Key {
-    ghost cmp = { λ a b. compared a b };
+    ghost cmp = { compared };
 
-    ghost total = { Prim.search (comparing, rules) };
+    ghost total = { compared_total };
 
-    ghost matches_partial_cmp = { Prim.search (comparing, rules) };
+    ghost matches_partial_cmp = { λ _ _. refl };
 
-    ghost matches_eq = { Prim.search (comparing, rules) };
+    ghost matches_eq = { compared_ties };
 
     fn cmp(&self, other: &Key) -> Ordering {
         let by_lot = order(self.lot, other.lot).then(order(self.number, other.number));

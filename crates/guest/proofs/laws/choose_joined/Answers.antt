@@ -12,5 +12,5 @@ returns g c xs ys a e =
     let o : OfDeck t = (bytes_of d, d.lawful) in
     let m = g.met.B.Board in
     shortlisted (g.B.Board.kept b t) (length t.contracts) (record { part = m.part b t o; substitutable = m.substitutable b t o; irrelevant = m.irrelevant b t o })
-    xs ys c.args.first.now c.args.second.now c.put-in.new.marks c.choose.new.marks c.choose.result
-    a e c.put-in.auto.marks c.put-in.ensures c.choose.ensures
+    xs ys c.args.first.now c.args.second.now c.put_in.new.marks c.choose.new.marks c.choose.result
+    a e c.put_in.auto.marks c.put_in.ensures c.choose.ensures

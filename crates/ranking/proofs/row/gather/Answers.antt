@@ -9,7 +9,7 @@ pub loop-k-preserved : goal.loop-k-preserved
 loop-k-preserved c = elim c.if-marks-k-ne0.branch [
   | then-marks-k-ne0 w ↦ (
     omega (arith, w.count-is),
-    (λ i. take (w.count-is i) ((w.keys-is ∙ ap (set c.loop-k.keys c.loop-k.count) w.key-of.ensures) i))
+    (λ i. take (w.count-is i) ((w.keys-is ∙ ap (set c.loop-k.keys c.loop-k.count) w.key_of.ensures) i))
         ∙ gathered_more c.args.rule c.args.contracts.now (member c.args.marks.now) c.loop-k.keys c.loop-k.count c.loop-k.k
         (omega arith) (ap not (ne_eqb _ _ w.if-marks-k-ne0.true)) c.loop-k.invariant.1,
   )

@@ -22,7 +22,7 @@ returns-then-bars g c =
     read_at (barred ps cs) (barred ps t.contracts) k true (ap (λ (z : List Contract). barred ps z) c.contracts-contracts.ensures) c.if-bars.ensures in
     let e = explained_struck (g.C.Board.kept s.below t) (g.C.Explain.reason s.below t) (barred ps t.contracts) (λ j. (4, (contract_at t.contracts j).dredger))
     (length t.contracts) xs k (g.met.C.Board.part s.below t (bytes_of d, d.lawful)) c.requires.0 c.requires.1.0 c.requires.1.1 b in
-    (e.0, e.1, said_of cs t.contracts k _ _ c.barred-pair.ensures c.contracts-contracts.ensures e.2)
+    (e.0, e.1, said_of cs t.contracts k _ _ c.barred_pair.ensures c.contracts-contracts.ensures e.2)
 
 pub returns : goal.returns
 returns g c =
@@ -35,9 +35,9 @@ returns g c =
     let b : barred ps t.contracts k ≡ false =
     read_at (barred ps cs) (barred ps t.contracts) k false (ap (λ (z : List Contract). barred ps z) c.contracts-contracts.ensures) c.if-bars.ensures in
     let m : member c.strike.new.marks ≡ minus (member xs) (barred ps t.contracts) =
-    minus_read (member c.strike.new.marks) (member c.copy-from-slice.new.self) (barred ps cs) (member xs) (barred ps t.contracts) c.strike.ensures
-    (ap member c.copy-from-slice.ensures.after) (ap (λ (z : List Contract). barred ps z) c.contracts-contracts.ensures) in
+    minus_read (member c.strike.new.marks) (member c.copy_from_slice.new.self) (barred ps cs) (member xs) (barred ps t.contracts) c.strike.ensures
+    (ap member c.copy_from_slice.ensures.after) (ap (λ (z : List Contract). barred ps z) c.contracts-contracts.ensures) in
     explained_without (g.C.Board.kept s.below t) (g.C.Explain.reason s.below t) (barred ps t.contracts) (λ j. (4, (contract_at t.contracts j).dredger))
     (length t.contracts) xs c.strike.new.marks k c.why.result c.requires.0
-    (length_three c.strike.new.marks c.copy-from-slice.new.self xs (length t.contracts) c.strike.auto.marks c.copy-from-slice.ensures.after c.requires.0)
+    (length_three c.strike.new.marks c.copy_from_slice.new.self xs (length t.contracts) c.strike.auto.marks c.copy_from_slice.ensures.after c.requires.0)
     c.requires.1.0 m c.requires.1.1 b c.why.ensures

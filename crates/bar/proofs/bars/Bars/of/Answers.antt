@@ -7,19 +7,19 @@ use Rattle.bar.proofs.bars.Bars.of.Goals as goal
 pub invariant_of-result : goal.invariant_of-result
 invariant_of-result c =
     let bs = c.bars-bars.result.now in
-    let ss = c.spans-of.result in
+    let ss = c.spans_of.result in
     let same : (i : ℕ) → i < length bs → bar_at c.copied.result i ≡ bar_at bs i = get_or_begins zero_barring bs c.copied.result c.copied.ensures.front in
     let few : length bs ≤ 128 = omega (arith, c.args.deck.now.few_bars, ap length c.bars-bars.ensures) in (
       few,
       (
         c.copied.ensures.whole,
         (
-          c.spans-of.ensures.wide,
+          c.spans_of.ensures.wide,
           (
-            (λ i l. let e = ap (λ b. (span_at ss b.trainee).from) (same i l) in let h = c.spans-of.ensures.spans.from i l in omega arith),
+            (λ i l. let e = ap (λ b. (span_at ss b.trainee).from) (same i l) in let h = c.spans_of.ensures.spans.from i l in omega arith),
             (
-              (λ i l. let e = ap (λ b. (span_at ss b.trainee).to) (same i l) in let h = c.spans-of.ensures.spans.to i l in omega arith),
-              (c.spans-of.ensures.spans.short, tt),
+              (λ i l. let e = ap (λ b. (span_at ss b.trainee).to) (same i l) in let h = c.spans_of.ensures.spans.to i l in omega arith),
+              (c.spans_of.ensures.spans.short, tt),
             ),
           ),
         ),

@@ -4,8 +4,8 @@ use Rattle.quota.proofs.quota.Quota.keep.Goals as goal
 
 pub returns : goal.returns
 returns c = (
-  c.in-ok-find-stops.ensures.0,
-  c.keep-unstopped.ensures
-      ∙ kept_are c.args.self.now.rows c.args.deck.now.contracts.now c.args.marks.now c.find-stops.new.stops
-      c.in-ok-find-stops.ensures.0 c.in-ok-find-stops.ensures.1,
+  c.in_ok-find_stops.ensures.0,
+  c.keep_unstopped.ensures
+      ∙ kept_are c.args.self.now.rows c.args.deck.now.contracts.now c.args.marks.now c.find_stops.new.stops
+      c.in_ok-find_stops.ensures.0 c.in_ok-find_stops.ensures.1,
 )

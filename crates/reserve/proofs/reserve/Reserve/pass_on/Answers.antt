@@ -9,6 +9,6 @@ pub returns : goal.returns
 returns g c =
     let s = c.args.self.now in
     let t = data_of c.args.deck.now in
-    let b = c.in-ok-choose.ensures in
+    let b = c.in_ok-choose.ensures in
     chosen_over (reserved s.reserves.places t.contracts) (g.C.Board.kept s.below t) (length t.contracts) c.args.marks.now c.part.new.taken
-    c.take-out.new.marks c.choose.new.marks c.put-in.new.marks c.requires c.part.ensures c.take-out.ensures b.1 c.put-in.auto.marks c.put-in.ensures
+    c.take_out.new.marks c.choose.new.marks c.put_in.new.marks c.requires c.part.ensures c.take_out.ensures b.1 c.put_in.auto.marks c.put_in.ensures

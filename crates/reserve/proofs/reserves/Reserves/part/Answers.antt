@@ -11,7 +11,7 @@ cut-requires c =
     let s = c.args.self.now in
     let cs = c.contracts-contracts.result.now in
     let out = c.entitle.new.out in
-    let P : List Contract → Type 0 = λ x. Front 0 x (member out) c.line-up.new.row c.in-Ok.count in
+    let P : List Contract → Type 0 = λ x. Front 0 x (member out) c.line_up.new.row c.in-Ok.count in
     let long : length out ≡ length cs = omega (arith, c.in-Ok.ensures.0, ap length c.contracts-contracts.ensures) in (
       subst P (sym c.contracts-contracts.ensures) c.in-Ok.ensures.1,
       (long, written_dredgers s.places cs (member c.args.marks.now) (member out) 64 s.whole c.entitle.ensures),

@@ -3,16 +3,16 @@ use Rattle.board.specs.Marks.{member}
 use Rattle.board.proofs.Marking.{member-within}
 use Rattle.seats.proofs.Lefts.{moved, found_best, found_none, said_equal, said_apart}
 use Rattle.seats.proofs.lineup.Lineup.best.Goals as goal
-use Rattle.seats.proofs.lineup.Lineup.best.Goals.{else-p-self-via-then-p-self+else-is-at, else-p-self-via-else-p-self}
+use Rattle.seats.proofs.lineup.Lineup.best.Goals.{else-p-self-via-then-p-self+else-is_at, else-p-self-via-else-p-self}
 
-pub returns-then-is-at : goal.returns-then-is-at
-returns-then-is-at c =
+pub returns-then-is_at : goal.returns-then-is_at
+returns-then-is_at c =
     let cs = c.args.deck.now.contracts.now in
     let R = member c.args.rest.now in
     let l = c.args.self.now in
     record {
       best = found_best cs R l c.args.dredger c.find-p.result (omega arith) c.requires.1 c.find-p.ensures
-          (member-within c.args.rest.now _ c.requires.0) (omega arith) (said_equal c.is-at.result _ _ c.is-at.ensures c.if-is-at.true);
+          (member-within c.args.rest.now _ c.requires.0) (omega arith) (said_equal c.is_at.result _ _ c.is_at.ensures c.if-is_at.true);
       ready = record { holds = c.requires.1.holds; points = moved cs R l c.args.dredger c.find-p.result (omega arith) c.requires.1 c.find-p.ensures };
       rule = refl;
     }
@@ -25,7 +25,7 @@ returns-else-p-self c =
     record {
       best = found_none cs R l c.args.dredger c.find-p.result (omega arith) c.requires.1 c.find-p.ensures
           (λ q d. elim c.else-p-self.branch [
-            | else-p-self-via-then-p-self+else-is-at w ↦ said_apart w.is-at.result _ _ w.is-at.ensures w.if-is-at.false d
+            | else-p-self-via-then-p-self+else-is_at w ↦ said_apart w.is_at.result _ _ w.is_at.ensures w.if-is_at.false d
             | else-p-self-via-else-p-self w ↦ omega arith
           ]);
       ready = record { holds = c.requires.1.holds; points = moved cs R l c.args.dredger c.find-p.result (omega arith) c.requires.1 c.find-p.ensures };

@@ -8,12 +8,12 @@ use Rattle.seats.proofs.lineup.Lineup.make.Goals as goal
 pub starts-self-requires : goal.starts-self-requires
 starts-self-requires c =
     holds-rises c.args.self.now.rule c.args.deck.now.contracts.now (member c.args.rest.now) _ _
-    (front-holds _ _ _ _ _ (member-within c.args.rest.now _ c.requires) c.in-ok-self.ensures.1)
+    (front-holds _ _ _ _ _ (member-within c.args.rest.now _ c.requires) c.in_ok-self.ensures.1)
 
 pub returns : goal.returns
 returns c = (
   record {
-    holds = front-holds _ _ _ _ _ (member-within c.args.rest.now _ c.requires) c.in-ok-self.ensures.1;
+    holds = front-holds _ _ _ _ _ (member-within c.args.rest.now _ c.requires) c.in_ok-self.ensures.1;
     points = starts_points _ _ _ _ _ c.starts-self.ensures;
   },
   refl,

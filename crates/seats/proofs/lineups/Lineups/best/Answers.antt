@@ -2,6 +2,6 @@ use Rattle.std.proofs.Common.{arith}
 use Rattle.seats.proofs.Sittings.{serves_rank}
 use Rattle.seats.proofs.lineups.Lineups.best.Goals as goal
 
-pub returns-in-default : goal.returns-in-default
-returns-in-default c =
-    serves_rank _ _ c.args.seat.now c.args.self.now c.give-in-default.new.self c.give-in-default.result (λ e. omega arith) (λ e. omega arith) c.requires.1 c.give-in-default.ensures
+pub returns-in_default : goal.returns-in_default
+returns-in_default c =
+    serves_rank _ _ c.args.seat.now c.args.self.now c.give-in_default.new.self c.give-in_default.result (λ e. omega arith) (λ e. omega arith) c.requires.1 c.give-in_default.ensures

@@ -16,8 +16,8 @@ loop-i-preserved c =
     let n : length (take s.count s.seats) ≡ s.count = length-take-le s.count s.seats (omega arith) in (
       seating_more (take s.count s.seats) c.args.deck.now.contracts.now (member c.args.rest.now) (member c.loop-i.rest) (member c.sit.new.rest)
           c.loop-i.i c.seat.result (omega arith) (get_or-take s.count s.seats c.loop-i.i zero_seat (omega arith) ∙ sym c.seat.ensures)
-          c.loop-i.invariant.0 c.in-ok-sit.ensures.0,
-      c.in-ok-sit.ensures.1,
+          c.loop-i.invariant.0 c.in_ok-sit.ensures.0,
+      c.in_ok-sit.ensures.1,
     )
 
 pub returns : goal.returns
