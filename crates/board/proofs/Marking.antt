@@ -1,12 +1,11 @@
 -- What marks mean, and what is written for a list.
-use Rattle.std.proofs.Common.{◌≡◌, ℕ, ◌<◌, ◌≤◌, Bool, true, false, cond, not, ◌&&◌, ◌||◌, eqb, ◌⊎◌, List, map, length, get_or, sym, refl, ap, ◌∙◌, inl, inr, ⊎_elim, arith}
+use Rattle.std.proofs.Common.{◌≡◌, ℕ, ◌<◌, ◌≤◌, Bool, true, false, cond, not, ◌&&◌, ◌||◌, eqb, List, length, get_or, sym, refl, ap, ◌∙◌, ⊎_elim, arith}
 use mathlib.Core.Path.{fun_ext}
-use Rattle.std.specs.List.{range_with_len}
 use Rattle.std.proofs.lemmas.List.FromFn.{length-map-range_with_len, get_or-map-range_with_len, fill_by_all}
 use Rattle.std.proofs.lemmas.List.{get_or_past}
-use Rattle.std.proofs.lemmas.Bool.{cases_lt, cases_Bool}
-use Rattle.matching.specs.Sets.{Set, minus, union, Part, Within}
-use Rattle.matching.proofs.Sets.{out_of_part, and_true, inside, outside}
+use Rattle.std.proofs.lemmas.Bool.{cases_lt}
+use Rattle.matching.specs.Sets.{Set, minus, union, Within}
+use Rattle.matching.proofs.Sets.{and_true, outside}
 use Rattle.board.specs.Marks.{member, marked}
 
 bit_back : (b : Bool) → not (eqb (cond b 1 0) 0) ≡ b

@@ -1,5 +1,5 @@
 -- What a board's calls promise through a layer on it.
-use Rattle.std.proofs.Common.{◌≡◌, ℕ, ◌<◌, ◌≤◌, Bool, true, false, cond, not, ◌&&◌, ◌||◌, eqb, ltb, List, length, get_or, Ok, Err, Result, sym, refl, ap, ◌∙◌, arith}
+use Rattle.std.proofs.Common.{◌≡◌, ℕ, ◌<◌, Bool, true, false, cond, not, ◌&&◌, ◌||◌, eqb, ltb, List, length, get_or, Ok, Err, Result, sym, ap, ◌∙◌, arith}
 use Rattle.std.proofs.lemmas.Bool.{and_from, and_right, or_left, not_from_false, not_from_true, cond-true, cond-false, eq-eqb, lt-ltb}
 use Rattle.matching.specs.Sets.{Set, minus}
 use Rattle.matching.specs.Choices.{Choice, KeepsPart, without, over}

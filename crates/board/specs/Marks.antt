@@ -1,5 +1,5 @@
 -- Marks: a list of contracts as bytes, one for each contract of a deck.
-use Rattle.std.specs.Prelude.{ℕ, Bool, cond, not, List, map, ◌==◌, slice_index}
+use Rattle.std.specs.Prelude.{ℕ, cond, not, List, map, ◌==◌, slice_index}
 use Rattle.std.specs.List.{range_with_len}
 use Rattle.matching.specs.Sets.{Set}
 

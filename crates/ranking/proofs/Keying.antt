@@ -15,7 +15,7 @@ use Rattle.ranking.specs.Keys.{ranked, compared, key_at, numbers, Sorted, Placed
 use Rattle.ranking.specs.Rank.{better, lower_lot, lower_term}
 use Rattle.ranking.specs.Total.{compared_total}
 use Rattle.ranking.specs.Rows.{precedes, Ordered, Front}
-use Rattle.ranking.proofs.Risings.{rising_in, rising_out, is, once, twice, get_or_mapped, shuffled_back}
+use Rattle.ranking.proofs.Risings.{rising_in, rising_out, once, twice, get_or_mapped, shuffled_back}
 
 -- what a sort of keys ensures
 pub rises_from_sort : (ks : List Key) → IsSorted compared ks

@@ -2,7 +2,7 @@
 use Rattle.std.specs.Prelude.{◌≡◌, ◌&&◌, ◌==◌}
 use mathlib.Core.Path.{◌∙◌}
 use Rattle.std.specs.Cmp.{IsTotalOrder, nat_cmp_total, on_total, back_total, then_total, both_tied, nat_eq_equiv, unsigned_ties}
-use Rattle.std.specs.Ordering.{is_eq, nat_cmp, ordering_then}
+use Rattle.std.specs.Ordering.{is_eq}
 use Rattle.ranking.specs.declared.key.Key.{Key}
 use Rattle.ranking.specs.Keys.{ranked, compared}
 
