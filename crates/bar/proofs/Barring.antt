@@ -1,12 +1,12 @@
 -- Which contracts some pair bars.
-use Rattle.std.proofs.Common.{◌≡◌, ℕ, zero, suc, ◌+◌, ◌<◌, ◌≤◌, Bool, true, false, cond, ◌&&◌, ◌||◌, eqb, ◌⊎◌, List, [], ◌∷◌, length, get_or, take, replicate, sym, refl, ap, ◌∙◌, inl, inr, ⊎_elim, arith, ext_get_or}
+use Rattle.std.proofs.Common.{◌≡◌, ℕ, zero, suc, ◌+◌, ◌<◌, ◌≤◌, true, false, cond, eqb, List, [], ◌∷◌, length, get_or, take, replicate, sym, refl, ap, ◌∙◌, ⊎_elim, arith, ext_get_or}
 use Rattle.std.proofs.lemmas.List.{get_or_past, get_or-replicate, get_or-take, length-replicate, length-take-le}
 use Rattle.std.proofs.lemmas.Bool.{or_from, or_left, or_right, and_left, ne_eqb, cases_eq, cases_lt, cond-true, cond-false, eq-eqb}
 use Rattle.rules.specs.declared.table.Barring.{Barring}
 use Rattle.rules.specs.declared.table.Contract.{Contract}
 use Rattle.rules.specs.Contents.{bar_at, contract_at}
 use Rattle.bar.specs.declared.span.Span.{Span}
-use Rattle.bar.specs.Bars.{hits, bars, span_at, widened, From, To, Short, Spans}
+use Rattle.bar.specs.Bars.{hits, bars, span_at, widened, From, To, Spans}
 
 bars_yes : (ps : List Barring) (c : Contract) (i n : ℕ) → i < n → i < length ps → hits (bar_at ps i) c ≡ true → bars (take n ps) c ≡ true
 bars_yes [] c i n a b e = absurd (omega arith)

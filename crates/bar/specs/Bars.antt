@@ -1,5 +1,5 @@
 -- Barred contracts.
-use Rattle.std.specs.Prelude.{ℕ, ◌+◌, ◌<◌, ◌≤◌, Bool, false, cond, ◌&&◌, ◌||◌, List, [], ◌∷◌, length, ◌==◌, slice_index_or}
+use Rattle.std.specs.Prelude.{ℕ, ◌+◌, ◌<◌, ◌≤◌, Bool, false, cond, ◌&&◌, ◌||◌, List, [], ◌∷◌, ◌==◌, slice_index_or}
 use Rattle.rules.specs.declared.table.Barring.{Barring}
 use Rattle.rules.specs.declared.table.Contract.{Contract}
 use Rattle.rules.specs.Contents.{bar_at, contract_at}

@@ -1,10 +1,10 @@
-use Rattle.std.proofs.Common.{◌≡◌, ℕ, true, false, List, length, take, refl, ap}
+use Rattle.std.proofs.Common.{◌≡◌, true, false, List, length, take, ap}
 use Rattle.deck.specs.Contents.{data_of, bytes_of}
 use Rattle.rules.specs.declared.table.Contract.{Contract}
 use Rattle.rules.specs.Contents.{contract_at}
 use Rattle.board.specs.Marks.{member}
 use Rattle.board.proofs.Through.{explained_without, explained_struck, read_at, minus_read, length_three}
-use Rattle.matching.specs.Sets.{Set, minus}
+use Rattle.matching.specs.Sets.{minus}
 use Rattle.bar.specs.Bars.{barred}
 use Rattle.bar.proofs.Barring.{said_of}
 use Rattle.bar.proofs.bar.Bar.explain.Goals as goal

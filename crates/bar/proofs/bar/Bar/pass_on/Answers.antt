@@ -1,4 +1,4 @@
-use Rattle.std.proofs.Common.{◌≡◌, List, length, take, refl, ap}
+use Rattle.std.proofs.Common.{List, length, take, refl, ap}
 use Rattle.deck.specs.Contents.{data_of}
 use Rattle.rules.specs.declared.table.Contract.{Contract}
 use Rattle.board.specs.Marks.{member}

@@ -1,5 +1,4 @@
-use Rattle.std.proofs.Common.{◌≡◌, ℕ, ◌<◌, ◌≤◌, true, length, sym, ap, ◌∙◌, subst, arith}
-use Rattle.bar.specs.declared.span.Span.{Span}
+use Rattle.std.proofs.Common.{◌≡◌, true, sym, ap, arith}
 use Rattle.rules.specs.Contents.{bar_at}
 use Rattle.bar.specs.Bars.{hits, span_at}
 use Rattle.bar.proofs.Barring.{barred_here, barred_nowhere}

@@ -1,4 +1,4 @@
-use Rattle.std.proofs.Common.{◌≡◌, ℕ, ◌<◌, ◌≤◌, length, sym, ap, ◌∙◌, arith}
+use Rattle.std.proofs.Common.{◌≡◌, ℕ, ◌<◌, length, ap, arith}
 use Rattle.rules.specs.Contents.{bar_at, zero_barring}
 use Rattle.bar.specs.Bars.{span_at}
 use Rattle.bar.proofs.Barring.{get_or_begins}
@@ -9,19 +9,11 @@ invariant_of-result c =
     let bs = c.bars-bars.result.now in
     let ss = c.spans_of.result in
     let same : (i : ℕ) → i < length bs → bar_at c.copied.result i ≡ bar_at bs i = get_or_begins zero_barring bs c.copied.result c.copied.ensures.front in
-    let few : length bs ≤ 128 = omega (arith, c.args.deck.now.few_bars, ap length c.bars-bars.ensures) in (
-      few,
-      (
-        c.copied.ensures.whole,
-        (
-          c.spans_of.ensures.wide,
-          (
-            (λ i l. let e = ap (λ b. (span_at ss b.trainee).from) (same i l) in let h = c.spans_of.ensures.spans.from i l in omega arith),
-            (
-              (λ i l. let e = ap (λ b. (span_at ss b.trainee).to) (same i l) in let h = c.spans_of.ensures.spans.to i l in omega arith),
-              (c.spans_of.ensures.spans.short, tt),
-            ),
-          ),
-        ),
-      ),
-    )
+    record {
+      few = omega (arith, c.args.deck.now.few_bars, ap length c.bars-bars.ensures);
+      whole = c.copied.ensures.whole;
+      wide = c.spans_of.ensures.wide;
+      from = λ i l. let e = ap (λ b. (span_at ss b.trainee).from) (same i l) in let h = c.spans_of.ensures.spans.from i l in omega arith;
+      to = λ i l. let e = ap (λ b. (span_at ss b.trainee).to) (same i l) in let h = c.spans_of.ensures.spans.to i l in omega arith;
+      short = c.spans_of.ensures.spans.short;
+    }

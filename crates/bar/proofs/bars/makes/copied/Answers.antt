@@ -1,4 +1,4 @@
-use Rattle.std.proofs.Common.{◌<◌, arith}
+use Rattle.std.proofs.Common.{arith}
 use Rattle.rules.specs.Contents.{zero_barring}
 use Rattle.bar.proofs.Barring.{begins_with}
 use Rattle.bar.proofs.bars.makes.copied.Goals as goal
