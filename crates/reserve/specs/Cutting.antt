@@ -1,16 +1,15 @@
 -- A row of contracts, cut where the reserved places end.
-use Rattle.std.specs.Prelude.{◌≡◌, ℕ, zero, suc, ◌+◌, ◌<◌, ◌≤◌, Bool, true, false, cond, not, ◌&&◌, ◌||◌, ltb, ◌⊎◌, List, [], ◌∷◌, ◌++◌, length, take, count_by, ◌==◌, ◌≢◌, nat_eq, nat_lt, slice_index, slice_index_or, refl}
-use Rattle.std.proofs.Common.{sym, ◌∙◌, ap, subst, inl, inr, ⊎_elim, arith}
+use Rattle.std.specs.Prelude.{◌≡◌, ℕ, zero, suc, ◌+◌, ◌<◌, ◌≤◌, Bool, true, false, cond, not, ◌&&◌, ◌||◌, ltb, List, [], ◌∷◌, ◌++◌, length, take, count_by, ◌==◌, ◌≢◌, nat_eq, nat_lt, slice_index, slice_index_or, refl}
+use Rattle.std.proofs.Common.{sym, ◌∙◌, ap, subst, ⊎_elim, arith}
 use Rattle.std.proofs.Math.Path.{fun_ext}
 use Rattle.std.proofs.lemmas.List.{get_or_past, take_more, take_all}
 use Rattle.std.proofs.lemmas.List.Sums.{sum_by_more, count_by-le-length}
-use Rattle.std.proofs.lemmas.Bool.{and_parts, and_from, and_left, and_right, or_left, or_right, or_from, or_cases, cases_Bool, cases_eq, cases_lt, both_ways, eq-eqb, ne_eqb, eqb-true, cond-true, cond-false, lt-ltb, le-ltb, ltb-true, ltb-false, not_from_true, not_from_false}
-use Rattle.moves.specs.Bags.{passing}
+use Rattle.std.proofs.lemmas.Bool.{and_parts, and_from, and_left, and_right, or_left, or_right, or_cases, cases_eq, cases_lt, both_ways, eq-eqb, ne_eqb, eqb-true, cond-true, cond-false, lt-ltb, le-ltb, ltb-true}
 use Rattle.rules.specs.declared.table.Contract.{Contract}
 use Rattle.rules.specs.Contents.{contract_at}
 use Rattle.matching.specs.Sets.{Set, common, Within}
-use Rattle.matching.specs.Choices.{Strict, Lawful, ahead, first}
-use Rattle.matching.proofs.Sets.{same_bool, outside, or_false, or_true}
+use Rattle.matching.specs.Choices.{Lawful, ahead, first}
+use Rattle.matching.proofs.Sets.{same_bool, or_false}
 use Rattle.matching.proofs.Sums.{passing_same}
 use Rattle.matching.proofs.Firsts.{first-lawful}
 use Rattle.board.specs.Marks.{member}
@@ -19,7 +18,6 @@ use Rattle.ranking.specs.Rows.{Ordered}
 use Rattle.ranking.proofs.Orderings.{above_irrefl, above_trans}
 use Rattle.ranking.proofs.Lineups.{lined_in, lined_all, lined-ahead}
 use Rattle.reserve.specs.Reserves.{flagged, reserve, reserved, entitled, entitled_of, left_or_out}
-use Rattle.reserve.specs.Reserving.{get_or-zeros}
 
 -- the reserve part is a lawful choice
 pub reserved-lawful : (places : List ℕ) (cs : List Contract) → Lawful (length cs) (reserved places cs)

@@ -1,4 +1,4 @@
-use Rattle.std.proofs.Common.{◌≡◌, ℕ, true, false, length, refl, ap}
+use Rattle.std.proofs.Common.{true, false, length, ap}
 use Rattle.deck.specs.Contents.{data_of}
 use Rattle.board.specs.Marks.{member}
 use Rattle.board.proofs.Through.{explained_over, explained_first, read_at, minus_read, length_three}

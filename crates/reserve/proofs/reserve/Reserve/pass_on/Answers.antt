@@ -1,6 +1,5 @@
 use Rattle.std.proofs.Common.{length}
 use Rattle.deck.specs.Contents.{data_of}
-use Rattle.board.specs.Marks.{member}
 use Rattle.board.proofs.Through.{chosen_over}
 use Rattle.reserve.specs.Reserves.{reserved}
 use Rattle.reserve.proofs.reserve.Reserve.pass_on.Goals as goal

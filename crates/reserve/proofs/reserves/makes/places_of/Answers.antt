@@ -1,4 +1,4 @@
-use Rattle.std.proofs.Common.{ℕ, ◌+◌, ◌<◌, refl, arith}
+use Rattle.std.proofs.Common.{refl, arith}
 use Rattle.reserve.specs.Reserving.{reserving_none, reserving_next, reserving_all}
 use Rattle.reserve.proofs.reserves.makes.places_of.Goals as goal
 
