@@ -1,9 +1,8 @@
 -- The choice by points is lawful.
-use Rattle.std.specs.Prelude.{◌≡◌, ℕ, Bool, true, false, ◌&&◌, List, refl}
+use Rattle.std.specs.Prelude.{ℕ, List}
 use Rattle.std.proofs.Math.Path.{fun_ext}
-use Rattle.std.proofs.lemmas.Bool.{and_parts, and_from, and_right, cases_Bool, both_ways}
+use Rattle.std.proofs.lemmas.Bool.{and_parts, and_from, both_ways}
 use Rattle.rules.specs.declared.table.Contract.{Contract}
-use Rattle.matching.specs.Sets.{Set, Part, Within}
 use Rattle.matching.specs.Choices.{Lawful}
 use Rattle.matching.proofs.Sets.{same_bool, outside}
 use Rattle.guest.specs.Thresholds.{enough, keeps}

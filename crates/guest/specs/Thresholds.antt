@@ -1,5 +1,5 @@
 -- A board that asks for points, and has room for everybody.
-use Rattle.std.specs.Prelude.{ℕ, Bool, ◌&&◌, List, nat_le}
+use Rattle.std.specs.Prelude.{ℕ, ◌&&◌, List, nat_le}
 use Rattle.rules.specs.declared.table.Contract.{Contract}
 use Rattle.rules.specs.Contents.{contract_at}
 use Rattle.matching.specs.Sets.{Set}

@@ -7,7 +7,7 @@ ghost use Rattle.rules.specs.Contents.{contract_at};
 ghost use Rattle.seats.specs.Seating.{Keeps, Taken};
 ghost use Rattle.seats.specs.Taking.{seated};
 ghost use Rattle.seats.specs.SeatLaws.{seated-lawful};
-ghost use Rattle.std.proofs.Common.{rules, arith};
+ghost use Rattle.std.proofs.Common.{rules};
 
 use crate::seats::Seats;
 use board::board::Board;
@@ -82,7 +82,7 @@ impl Board for Seats {
 impl Explain for Seats {
     ghost reason = { λ s t X k. (3, (contract_at t.contracts k).dredger) };
 
-    ghost further = { first_of (Prim.search rules, Prim.grind (arith, Self.row.coded.inj)) };
+    ghost further = { Prim.search rules };
 
     fn why(&self, deck: &Deck, marks: &[u8], k: u16) -> Result<(u8, u16), Unfit> {
         if !is_listed(deck, marks, k)? {

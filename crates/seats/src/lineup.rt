@@ -44,7 +44,7 @@ impl Lineup {
     // Is it at the dredger, and no more left?
     fn is_gone(&self, deck: &Deck, rest: &[u8], dredger: u8, p: usize) -> bool
         requires named { Named (data_of deck.now).contracts self.now.numbers p }
-        requires rest_len { length rest.now ≡ length (data_of deck.now).contracts }
+        requires fits { length rest.now ≡ length (data_of deck.now).contracts }
         ensures { result ≡ gone (data_of deck.now).contracts (member rest.now) self.now.numbers dredger p }
     {
         self.is_at(deck, dredger, p) && rest[self.numbers[p] as usize] == 0
@@ -52,7 +52,7 @@ impl Lineup {
 
     // Where the contracts left at the dredger begin.
     fn find(&self, deck: &Deck, rest: &[u8], dredger: u8) -> usize
-        requires rest_len { length rest.now ≡ length (data_of deck.now).contracts }
+        requires fits { length rest.now ≡ length (data_of deck.now).contracts }
         requires ready { Ready (data_of deck.now).contracts (member rest.now) self.now }
         ensures { Found (data_of deck.now).contracts (member rest.now) self.now dredger result }
     {
@@ -65,8 +65,8 @@ impl Lineup {
 
     // The best contract left at the dredger.
     fn best(&mut self, deck: &Deck, rest: &[u8], dredger: u8) -> Option<u16>
-        requires rest_len { length rest.now ≡ length (data_of deck.now).contracts }
-        requires ready_2 { Ready (data_of deck.now).contracts (member rest.now) self.old }
+        requires fits { length rest.now ≡ length (data_of deck.now).contracts }
+        requires was_ready { Ready (data_of deck.now).contracts (member rest.now) self.old }
         ensures best { Is (length (data_of deck.now).contracts)
             (first_at dredger self.old.rule (data_of deck.now).contracts (member rest.now)) result }
         ensures ready { Ready (data_of deck.now).contracts (member rest.now) self.new }
@@ -99,7 +99,7 @@ impl Lineup {
         rest: &[u8],
         dredger: u8,
     ) -> Result<Option<u16>, Unfit>
-        requires rest_len { length rest.now ≡ length (data_of deck.now).contracts }
+        requires fits { length rest.now ≡ length (data_of deck.now).contracts }
         requires stands { Stands (data_of deck.now).contracts (member rest.now) self.old }
         ensures { Gives (data_of deck.now).contracts (member rest.now) dredger self.old self.new result }
     {

@@ -32,7 +32,7 @@ impl Lineups {
 
     // What a seat takes of the rest.
     fn best(&mut self, deck: &Deck, rest: &[u8], seat: &Seat) -> Result<Option<u16>, Unfit>
-        requires rest_len { length rest.now ≡ length (data_of deck.now).contracts }
+        requires fits { length rest.now ≡ length (data_of deck.now).contracts }
         requires prepared { Prepared (data_of deck.now).contracts (member rest.now) self.old }
         ensures { Serves (data_of deck.now).contracts (member rest.now) seat.now self.new result }
     {
@@ -45,7 +45,7 @@ impl Lineups {
 
     // The seat takes it out.
     pub(crate) fn sit(&mut self, deck: &Deck, rest: &mut [u8], seat: &Seat) -> Result<(), Unfit>
-        requires rest_len { length rest.old ≡ length (data_of deck.now).contracts }
+        requires fits { length rest.old ≡ length (data_of deck.now).contracts }
         requires prepared { Prepared (data_of deck.now).contracts (member rest.old) self.old }
         ensures { Sits (data_of deck.now).contracts seat.now self.new rest.old rest.new result }
     {

@@ -2,7 +2,7 @@
 ghost use Rattle.quota.specs.Answer.{pair_of};
 ghost use Rattle.quota.specs.Caps.{quota_reason};
 ghost use Rattle.std.specs.Prelude.{◌≡◌};
-ghost use Rattle.std.proofs.Common.{rules, arith};
+ghost use Rattle.std.proofs.Common.{rules};
 
 use crate::quota::Quota;
 use board::explain::Explain;
@@ -23,7 +23,7 @@ fn pair_of(stop: Option<u8>) -> (u8, u16)
 impl Explain for Quota {
     ghost reason = { λ s t X k. quota_reason s.rows t.contracts X k };
 
-    ghost further = { first_of (Prim.search rules, Prim.grind (arith, Self.row.coded.inj)) };
+    ghost further = { Prim.search rules };
 
     fn why(&self, deck: &Deck, marks: &[u8], k: u16) -> Result<(u8, u16), Unfit> {
         if !is_listed(deck, marks, k)? {

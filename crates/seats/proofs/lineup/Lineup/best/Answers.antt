@@ -11,9 +11,9 @@ returns-then-is_at c =
     let R = member c.args.rest.now in
     let l = c.args.self.now in
     record {
-      best = found_best cs R l c.args.dredger c.find-p.result (omega arith) c.requires.1 c.find-p.ensures
-          (member-within c.args.rest.now _ c.requires.0) (omega arith) (said_equal c.is_at.result _ _ c.is_at.ensures c.if-is_at.true);
-      ready = record { holds = c.requires.1.holds; points = moved cs R l c.args.dredger c.find-p.result (omega arith) c.requires.1 c.find-p.ensures };
+      best = found_best cs R l c.args.dredger c.find-p.result (omega arith) c.requires.was_ready c.find-p.ensures
+          (member-within c.args.rest.now _ c.requires.fits) (omega arith) (said_equal c.is_at.result _ _ c.is_at.ensures c.if-is_at.true);
+      ready = record { holds = c.requires.was_ready.holds; points = moved cs R l c.args.dredger c.find-p.result (omega arith) c.requires.was_ready c.find-p.ensures };
       rule = refl;
     }
 
@@ -23,11 +23,11 @@ returns-else-p-self c =
     let R = member c.args.rest.now in
     let l = c.args.self.now in
     record {
-      best = found_none cs R l c.args.dredger c.find-p.result (omega arith) c.requires.1 c.find-p.ensures
+      best = found_none cs R l c.args.dredger c.find-p.result (omega arith) c.requires.was_ready c.find-p.ensures
           (λ q d. elim c.else-p-self.branch [
             | else-p-self-via-then-p-self+else-is_at w ↦ said_apart w.is_at.result _ _ w.is_at.ensures w.if-is_at.false d
             | else-p-self-via-else-p-self w ↦ omega arith
           ]);
-      ready = record { holds = c.requires.1.holds; points = moved cs R l c.args.dredger c.find-p.result (omega arith) c.requires.1 c.find-p.ensures };
+      ready = record { holds = c.requires.was_ready.holds; points = moved cs R l c.args.dredger c.find-p.result (omega arith) c.requires.was_ready c.find-p.ensures };
       rule = refl;
     }
