@@ -1,5 +1,5 @@
 // A board under the reserves of a deck, under its bars.
-ghost use Rattle.std.specs.Prelude.{ℕ, get_or, length, take, ◌≡◌};
+ghost use Rattle.std.specs.Prelude.{◌≡◌, ℕ, length, slice_index, take};
 ghost use Rattle.board.specs.Calls.{Chosen};
 ghost use Rattle.deck.specs.Contents.{data_of};
 ghost use Rattle.layers.specs.Piles.{piled};
@@ -14,7 +14,7 @@ use reserve::reserve::Reserve;
 // Both layers of a deck, on this board. The bars are outermost, so that a barred contract takes no reserved place.
 pub fn pile<C>(below: C, deck: &Deck) -> Bar<Reserve<C>>
     ensures below { result.below.below ≡ below }
-    ensures reserves { (v : ℕ) → get_or result.below.reserves.places v 0 ≡ seats_for (data_of deck.now).reserves v }
+    ensures reserves { (v : ℕ) → slice_index result.below.reserves.places v ≡ seats_for (data_of deck.now).reserves v }
     ensures bars { take result.bars.count result.bars.pairs ≡ (data_of deck.now).bars }
 {
     Bar::of(Reserve::of(below, deck), deck)
