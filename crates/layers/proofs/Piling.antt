@@ -5,6 +5,9 @@ use Prim.Native.Nat.{ℕ}
 use lib.ListN.{length, get_or}
 use Rattle.rules.specs.declared.table.Barring.{Barring}
 use Rattle.rules.specs.Contents.{Content, contract_at}
+use Rattle.std.proofs.Common.{Result, subst}
+use Rattle.board.specs.declared.unfit.Unfit.{Unfit}
+use Rattle.board.specs.Calls.{Chosen}
 use Rattle.matching.specs.Choices.{Choice, without, over, first}
 use Rattle.ranking.specs.Rank.{above}
 use Rattle.bar.specs.Bars.{barred}
@@ -21,3 +24,10 @@ piled_is t f h ps places a b e =
     ap (λ (z : List Barring). without (barred z t.contracts) (over (reserved places t.contracts) f)) a
     ∙ ap (λ (R : Choice). without (barred t.bars t.contracts) (over R f)) (part_of t places b)
     ∙ ap (λ (k : Choice). piled t k) e
+
+-- what a pile of layers chooses, by the tables that it was made from
+pub chosen_piled : {B : Type 0} (kept : B → Content → Choice) (t : Content) (own below : B) (ps : List Barring) (places : List ℕ) (n : ℕ) (before after : List ℕ) (r : Result Unit Unfit)
+    → own ≡ below → ((v : ℕ) → get_or places v 0 ≡ seats_for t.reserves v) → ps ≡ t.bars
+    → Chosen (without (barred ps t.contracts) (over (reserved places t.contracts) (kept own t))) n before after r → Chosen (piled t (kept below t)) n before after r
+chosen_piled kept t own below ps places n before after r e b a =
+    subst (λ k. Chosen k n before after r) (piled_is t (kept own t) (kept below t) ps places a b (ap (λ x. kept x t) e))
