@@ -25,39 +25,54 @@ pub fn said(answer: Result<(u8, u16), Unfit>) -> Result<(u8, u16), u8> {
     }
 }
 
+// `what` says which board and deck it is, `number` which list.
 fn agrees_on<B: Explain>(
     rt: &impl Abort,
+    what: &str,
+    number: usize,
     board: &B,
     deck: &Deck,
     list: &[u8],
     pairs: &[(u8, u16)],
-) -> Result<(), Fail> {
+) {
     let n = list.len();
-    assert!(rt; n <= 16 && pairs.len() == n);
+    assert!(rt; n <= 16 && pairs.len() == n, "{what}, list {number}");
     let mut own = [0u8; 16];
     let marks = &mut own[0..n];
     marks.copy_from_slice(list);
-    assert_eq!(rt; number_of(board.choose(deck, marks)), 0);
+    assert_eq!(rt;
+        number_of(board.choose(deck, marks)),
+        0,
+        "{what}, list {number}"
+    );
     for k in 0..16u16 {
         let at = k as usize;
         if at < pairs.len() {
             let pair = pairs[at];
             let mark = if pair.0 == 0 { 1 } else { 0 };
-            assert_eq!(rt; marks.get(at).copied(), Some(mark), "mark {k}");
-            assert_eq!(rt; said(board.why(deck, list, k)), Ok(pair), "contract {k}");
+            assert_eq!(rt;
+                marks.get(at).copied(),
+                Some(mark),
+                "{what}, list {number}, mark {k}"
+            );
+            assert_eq!(rt;
+                said(board.why(deck, list, k)),
+                Ok(pair),
+                "{what}, list {number}, contract {k}"
+            );
         }
     }
-    Ok(())
 }
 
 pub fn agrees<B: Explain>(
     rt: &impl Abort,
+    what: &str,
     board: &B,
     deck: &Deck,
     trials: &[Trial],
 ) -> Result<(), Fail> {
     for (i, trial) in trials.iter().enumerate() {
-        agrees_on(rt, board, deck, trial.0, trial.1).note(format_args!("list {i}"))?;
+        agrees_on(rt, what, i, board, deck, trial.0, trial.1);
     }
     Ok(())
 }

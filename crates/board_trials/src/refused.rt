@@ -15,30 +15,39 @@ use std::process::Abort;
 use std::test::Fail;
 
 // Marks one short and one long, for a deck of nine contracts.
-fn check_lengths<B: Explain>(rt: &impl Abort, board: &B, deck: &Deck) {
+fn check_lengths<B: Explain>(rt: &impl Abort, what: &str, board: &B, deck: &Deck) {
     let mut short = [2, 1, 0, 255, 1, 0, 7, 1];
     let mut long = [1, 2, 0, 255, 1, 0, 7, 1, 1, 3];
-    assert_eq!(rt; number_of(board.choose(deck, &mut short)), 31);
-    assert_eq!(rt; number_of(board.choose(deck, &mut long)), 31);
-    assert_eq!(rt; number_of(choose_twice(board, deck, &mut long)), 31);
-    assert_eq!(rt; said(board.why(deck, &short, 0)), Err(31));
+    assert_eq!(rt; number_of(board.choose(deck, &mut short)), 31, "{what}");
+    assert_eq!(rt; number_of(board.choose(deck, &mut long)), 31, "{what}");
+    assert_eq!(rt;
+        number_of(choose_twice(board, deck, &mut long)),
+        31,
+        "{what}"
+    );
+    assert_eq!(rt; said(board.why(deck, &short, 0)), Err(31), "{what}");
     // 31 is asked before 32
-    assert_eq!(rt; said(board.why(deck, &long, 9)), Err(31));
-    assert_eq!(rt; short, [2, 1, 0, 255, 1, 0, 7, 1]);
-    assert_eq!(rt; long, [1, 2, 0, 255, 1, 0, 7, 1, 1, 3]);
+    assert_eq!(rt; said(board.why(deck, &long, 9)), Err(31), "{what}");
+    assert_eq!(rt; short, [2, 1, 0, 255, 1, 0, 7, 1], "{what}");
+    assert_eq!(rt; long, [1, 2, 0, 255, 1, 0, 7, 1, 1, 3], "{what}");
 }
 
 // The last contract is 8.
-fn check_numbers<B: Explain>(rt: &impl Abort, board: &B, deck: &Deck) {
+fn check_numbers<B: Explain>(rt: &impl Abort, what: &str, board: &B, deck: &Deck) {
     let marks = [0u8; 9];
-    assert_eq!(rt; said(board.why(deck, &marks, 8)), Ok((1, 0)));
-    assert_eq!(rt; said(board.why(deck, &marks, 9)), Err(32));
-    assert_eq!(rt; said(board.why(deck, &marks, 65535)), Err(32));
+    assert_eq!(rt; said(board.why(deck, &marks, 8)), Ok((1, 0)), "{what}");
+    assert_eq!(rt; said(board.why(deck, &marks, 9)), Err(32), "{what}");
+    assert_eq!(rt; said(board.why(deck, &marks, 65535)), Err(32), "{what}");
 }
 
-fn check_refusals<B: Explain>(rt: &impl Abort, board: &B, deck: &Deck) -> Result<(), Fail> {
-    check_lengths(rt, board, deck);
-    check_numbers(rt, board, deck);
+fn check_refusals<B: Explain>(
+    rt: &impl Abort,
+    what: &str,
+    board: &B,
+    deck: &Deck,
+) -> Result<(), Fail> {
+    check_lengths(rt, what, board, deck);
+    check_numbers(rt, what, board, deck);
     Ok(())
 }
 
@@ -47,11 +56,11 @@ fn boards_and_layers_refuse(rt: HostRuntime) -> Result<(), Fail> {
     let book = Book::of(R)?;
     let deck = book.deck();
     let board = Threshold { least: 50 };
-    check_refusals(&rt, &board, &deck).note("threshold")?;
-    check_refusals(&rt, &Quota::of(&deck), &deck).note("quota")?;
-    check_refusals(&rt, &Seats::of(&deck), &deck).note("seats")?;
+    check_refusals(&rt, "threshold", &board, &deck)?;
+    check_refusals(&rt, "quota", &Quota::of(&deck), &deck)?;
+    check_refusals(&rt, "seats", &Seats::of(&deck), &deck)?;
     let pile = Bar::of(Reserve::of(board, &deck), &deck);
-    check_refusals(&rt, &pile, &deck).note("layers")
+    check_refusals(&rt, "layers", &pile, &deck)
 }
 
 // A deck without contracts has lists of no mark.
