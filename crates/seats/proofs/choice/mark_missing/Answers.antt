@@ -2,7 +2,7 @@ use Rattle.std.proofs.Common.{arith}
 use Rattle.matching.specs.Sets.{minus}
 use Rattle.board.specs.Marks.{member}
 use Rattle.board.proofs.Marking.{marked_from}
-use Rattle.seats.proofs.board.mark_missing.Goals as goal
+use Rattle.seats.proofs.choice.mark_missing.Goals as goal
 
 pub returns : goal.returns
 returns c =

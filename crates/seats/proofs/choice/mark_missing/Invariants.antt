@@ -1,7 +1,7 @@
 use Rattle.std.proofs.Common.{◌≡◌, ℕ, ◌<◌, ◌≤◌, cond, get_or}
 use Rattle.matching.specs.Sets.{minus}
 use Rattle.board.specs.Marks.{member}
-use Rattle.seats.proofs.board.mark_missing.Given as goal
+use Rattle.seats.proofs.choice.mark_missing.Given as goal
 
 abbrev pub invariant-loop-k : goal.invariant-loop-k
 invariant-loop-k l =
