@@ -12,6 +12,7 @@ import re
 import sys
 
 NAMES = """
+firstsOf firsts_of; is-printed is_printed; is-refused is_refused; refusalOf deck_refusal;
 All-follow AllFollow; All-join AllJoin; Beside-lawful BesideLawful; Blank-from BlankFrom; First-lawful FirstLawful; Keeps-part KeepsPart;
 One-best OneBest; One-removed OneRemoved; Over-lawful OverLawful; Path-independent PathIndependent; Place-for PlaceFor; Rank-orders RankOrders;
 Rules-order RulesOrder; Those-counted ThoseCounted; Without-lawful WithoutLawful; above-irrefl above_irrefl; above-total above_total;
@@ -26,7 +27,7 @@ byteRefusal byte_refusal; bytes-are bytes_are; chosen-over chosen_over; chosen-p
 climbing-full climbing_full; climbing-none climbing_none; compared-alike compared_alike; compared-flip compared_flip; compared-trans compared_trans;
 cond-le cond_le; contentOf content_of; contract-fits contract_fits; contract-groups contract_groups; contract-trainees contract_trainees;
 contractAt contract_at; count-all count_all; count-more count_more; countBy-none count_by_none; countBy-same count_by_same; cut-more cut_more;
-cut-none cut_none; dealt-few dealt_few; dealt-sound dealt_sound; dealt-text dealt_text; deckLine line_of_deck; deckOf deck_of; deckText text_of_deck;
+cut-none cut_none; dealt-few dealt_few; dealt-sound dealt_sound; dealt-text dealt_text; deckLine line_of_deck; deckOf deck_fault_of; deckText text_of_deck;
 dredger-wider dredger_wider; dredgerAt dredger_at; due-record due_record; each-push each_push; encode-size encode_size; end-alone end_alone;
 end-no end_no; enough-full enough_full; entitledOf entitled_of; entry-is entry_is; explained-first explained_first; explained-over explained_over;
 explained-struck explained_struck; explained-without explained_without; extend-more extend_more; extend-snoc extend_snoc; few-more few_more;

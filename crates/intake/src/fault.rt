@@ -1,5 +1,5 @@
 // A fault of the deck layer, with one of the record layer whole.
-ghost use Rattle.intake.specs.Refusals.{by_deck, deck_fault_of, refusal as refusal_of};
+ghost use Rattle.intake.specs.Refusals.{by_deck, deck_fault_of, refusal as deck_refusal};
 ghost use Rattle.std.specs.Prelude.{◌≡◌};
 
 use format::fault::{Layer, Refusal};
@@ -36,7 +36,7 @@ fn at(number: u8, place: usize) -> Refusal
 
 impl DeckFault {
     pub fn refusal(&self) -> Refusal
-        ensures { result ≡ refusal_of self.now }
+        ensures { result ≡ deck_refusal self.now }
     {
         match self {
             DeckFault::Records(f) => f.refusal(),
