@@ -1,3 +1,2 @@
 pub mod Reserves
 pub mod Cutting
-pub mod Reserving

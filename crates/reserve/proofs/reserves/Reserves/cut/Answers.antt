@@ -5,7 +5,7 @@ use Rattle.board.specs.Marks.{member}
 use Rattle.board.proofs.Marking.{member-within}
 use Rattle.ranking.specs.Rows.{Ordered}
 use Rattle.ranking.proofs.Lineups.{lined_in}
-use Rattle.reserve.specs.Reserving.{get_or-zeros}
+use Rattle.reserve.proofs.Reserving.{get_or-zeros}
 use Rattle.reserve.specs.Cutting.{cut_none, cut_more, cut_all, seen_few}
 use Rattle.reserve.proofs.reserves.Reserves.cut.Goals as goal
 

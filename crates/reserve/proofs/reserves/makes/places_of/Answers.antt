@@ -1,5 +1,5 @@
 use Rattle.std.proofs.Common.{refl, arith}
-use Rattle.reserve.specs.Reserving.{reserving_none, reserving_next, reserving_all}
+use Rattle.reserve.proofs.Reserving.{reserving_none, reserving_next, reserving_all}
 use Rattle.reserve.proofs.reserves.makes.places_of.Goals as goal
 
 pub loop-i-init : goal.loop-i-init
