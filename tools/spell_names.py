@@ -12,7 +12,7 @@ import re
 import sys
 
 NAMES = """
-firstsOf firsts_of; is-printed is_printed; is-refused is_refused; refusalOf deck_refusal;
+firstsOf firsts_of; is-printed is_printed; is-refused is_refused; times-shuffled times-IsPermutation; refusalOf deck_refusal;
 All-follow AllFollow; All-join AllJoin; Beside-lawful BesideLawful; Blank-from BlankFrom; First-lawful FirstLawful; Keeps-part KeepsPart;
 One-best OneBest; One-removed OneRemoved; Over-lawful OverLawful; Path-independent PathIndependent; Place-for PlaceFor; Rank-orders RankOrders;
 Rules-order RulesOrder; Those-counted ThoseCounted; Without-lawful WithoutLawful; above-irrefl above_irrefl; above-total above_total;
@@ -62,7 +62,7 @@ ringed-newest ringed_newest; ringed-none ringed_none; ringed-oldest ringed_oldes
 rising-all rising_all; rising-has rising_has; rising-in rising_in; rising-out rising_out; rising-sum rising_sum; room-le room_le;
 roomy-written roomy_written; rule-strict rule_strict; rules-order rules_order; said-apart said_apart; said-equal said_equal; seatAt seat_at;
 seating-all seating_all; seating-more seating_more; seating-none seating_none; seats-for seats_for; section-is section_is; sectionOf section_of;
-seen-is seen_is; seen-room seen_room; serves-rank serves_rank; shuffled-back shuffled_back; spanAt span_at; spans-more spans_more;
+seen-is seen_is; seen-room seen_room; serves-rank serves_rank; shuffled-back permutation_back; spanAt span_at; spans-more spans_more;
 spans-none spans_none; spells-short spells_short; spots-apart spots_apart; starts-points starts_points; stop-full stop_full; stop-of stop_of;
 stop-top stop_top; stop-up stop_up; stopped-at stopped_at; strike-bit strike_bit; stuck-end stuck_end; stuck-no stuck_no; sums-are sums_are;
 taken-best taken_best; takes-newest takes_newest; takes-oldest takes_oldest; term-irrefl term_irrefl; term-total term_total; term-trans term_trans;

@@ -40,15 +40,9 @@ fn check_numbers<B: Explain>(rt: &impl Abort, what: &str, board: &B, deck: &Deck
     assert_eq!(rt; said(board.why(deck, &marks, 65535)), Err(32), "{what}");
 }
 
-fn check_refusals<B: Explain>(
-    rt: &impl Abort,
-    what: &str,
-    board: &B,
-    deck: &Deck,
-) -> Result<(), Fail> {
+fn check_refusals<B: Explain>(rt: &impl Abort, what: &str, board: &B, deck: &Deck) {
     check_lengths(rt, what, board, deck);
     check_numbers(rt, what, board, deck);
-    Ok(())
 }
 
 #[test]
@@ -56,11 +50,12 @@ fn boards_and_layers_refuse(rt: HostRuntime) -> Result<(), Fail> {
     let book = Book::of(R)?;
     let deck = book.deck();
     let board = Threshold { least: 50 };
-    check_refusals(&rt, "threshold", &board, &deck)?;
-    check_refusals(&rt, "quota", &Quota::of(&deck), &deck)?;
-    check_refusals(&rt, "seats", &Seats::of(&deck), &deck)?;
+    check_refusals(&rt, "threshold", &board, &deck);
+    check_refusals(&rt, "quota", &Quota::of(&deck), &deck);
+    check_refusals(&rt, "seats", &Seats::of(&deck), &deck);
     let pile = Bar::of(Reserve::of(board, &deck), &deck);
-    check_refusals(&rt, "layers", &pile, &deck)
+    check_refusals(&rt, "layers", &pile, &deck);
+    Ok(())
 }
 
 // A deck without contracts has lists of no mark.

@@ -1,4 +1,6 @@
 // The moves of a strip of trainee numbers, as those of a line.
+#![tactic(auto, using(crate::proofs::Ends::joins_end, crate::proofs::Ends::takes_oldest, crate::proofs::Ends::takes_newest))]
+
 ghost use Rattle.line.specs.Calls.{Joined, Taken, at_end, the_newest, the_oldest};
 ghost use Rattle.strip.specs.Rows.{items, places};
 ghost use Rattle.std.specs.Prelude.{◌≡◌};

@@ -19,6 +19,7 @@ use rules::table::{
 use std::alloc::{AllocError, Global};
 
 // How many contracts are of this trainee.
+#[tactic(auto, using(crate::proofs::Wishes::wish_more, crate::proofs::Wishes::wish_other, crate::proofs::Wishes::wish_all))]
 fn wish_count(contracts: &[Contract], trainee: usize) -> usize
     ensures { result ≡ wishes trainee contracts.now }
 {

@@ -2,9 +2,11 @@
 #![tactic(auto)]
 
 ghost use Rattle.matching.specs.Facts.{BesideLawful, FirstLawful, OneBest, OneRemoved, OverLawful, PathIndependent, Settled, WithoutLawful};
+ghost use Rattle.std.specs.Prelude.{IsTrue};
 
 // What holds of every lawful choice.
 pub fn lawful_choices_stand() -> bool
+    ensures told { IsTrue result }
     ensures settled { Settled }
     ensures paths { PathIndependent }
 {
@@ -13,6 +15,7 @@ pub fn lawful_choices_stand() -> bool
 
 // How choices are made that are lawful again.
 pub fn made_choices_stand() -> bool
+    ensures told { IsTrue result }
     ensures removed { OneRemoved }
     ensures without { WithoutLawful }
     ensures over { OverLawful }
@@ -24,7 +27,8 @@ pub fn made_choices_stand() -> bool
 
 // A market and a choice have at most one best list.
 pub fn best_is_one() -> bool
-    ensures { OneBest }
+    ensures told { IsTrue result }
+    ensures one { OneBest }
 {
     true
 }

@@ -53,5 +53,5 @@ times_sum k [] = refl
 times_sum k (x ∷ xs) = ap (λ (n : ℕ). cond (eqb x k) 1 0 + n) (times_sum k xs) ∙ sym (sum_by-cons (λ y. cond (eqb y k) 1 0) x xs)
 
 -- equal bags hold each number equally often
-pub times-shuffled : (k : ℕ) (xs ys : List ℕ) → IsPermutation xs ys → times k ys ≡ times k xs
-times-shuffled k xs ys h = times_sum k ys ∙ sum_by-IsPermutation (λ x. cond (eqb x k) 1 0) xs ys h ∙ sym (times_sum k xs)
+pub times-IsPermutation : (k : ℕ) (xs ys : List ℕ) → IsPermutation xs ys → times k ys ≡ times k xs
+times-IsPermutation k xs ys h = times_sum k ys ∙ sum_by-IsPermutation (λ x. cond (eqb x k) 1 0) xs ys h ∙ sym (times_sum k xs)

@@ -2,10 +2,12 @@
 #![tactic(auto)]
 
 ghost use Rattle.moves.specs.Bags.{ThoseCounted};
+ghost use Rattle.std.specs.Prelude.{IsTrue};
 
-// Where just those wait of whom a test is true, each once, there are as many as the test counts.
+// Where just those wait of whom a test holds, each once, there are as many as the test counts.
 pub fn those_are_counted() -> bool
-    ensures { ThoseCounted }
+    ensures told { IsTrue result }
+    ensures counted { ThoseCounted }
 {
     true
 }

@@ -2,7 +2,7 @@
 ghost use Rattle.quota.specs.Caps.{Earlier};
 ghost use Rattle.quota.specs.Rule.{Rule};
 ghost use Rattle.rules.specs.declared.table.Contract.{Contract};
-ghost use Rattle.std.specs.Prelude.{◌≡◌, List, length};
+ghost use Rattle.std.specs.Prelude.{◌≡◌, IsTrue, List, length};
 
 pub mod choice;
 mod climb;
@@ -22,7 +22,8 @@ pub struct Quota {
 impl Quota {
     // What the board keeps, and the reasons it gives, follow the rule of its rows for all contracts.
     pub fn follows_its_rule(&self) -> bool
-        ensures { (cs : List Contract) → Rule self.now.rows cs }
+        ensures told { IsTrue result }
+        ensures ruled { (cs : List Contract) → Rule self.now.rows cs }
     {
         true
     }

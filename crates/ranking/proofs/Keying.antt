@@ -15,7 +15,7 @@ use Rattle.ranking.specs.Keys.{ranked, compared, key_at, numbers, Sorted, Placed
 use Rattle.ranking.specs.Rank.{better, lower_lot, lower_term}
 use Rattle.ranking.specs.Total.{compared_total}
 use Rattle.ranking.specs.Rows.{precedes, Ordered, Front}
-use Rattle.ranking.proofs.Risings.{rising_in, rising_out, once, twice, get_or_mapped, shuffled_back}
+use Rattle.ranking.proofs.Risings.{rising_in, rising_out, once, twice, get_or_mapped, permutation_back}
 
 -- what a sort of keys ensures
 pub rises_from_sort : (ks : List Key) → IsSorted compared ks
@@ -125,7 +125,7 @@ pub lined : (rule : ℕ) (cs : List Contract) (X : Set) (ks ks' : List Key)
 lined rule cs X ks ks' e s = subst (Ordered rule cs X) (sym (ap numbers was ∙ numbers_back rule cs ns)) row
   where
     back : (ns : List ℕ) × (ks' ≡ map (key_at rule cs) ns) × IsPermutation (rising (length cs) X) ns
-    back = shuffled_back (key_at rule cs) (rising (length cs) X) ks' (subst (λ l. IsPermutation l ks') e s.same)
+    back = permutation_back (key_at rule cs) (rising (length cs) X) ks' (subst (λ l. IsPermutation l ks') e s.same)
 
     ns : List ℕ
     ns = back.0

@@ -87,8 +87,8 @@ module _ {X Y : Type 0} (f : X → Y) where
   map_moved xs [] = refl
   map_moved xs (p ∷ ps) = map_exchanged (apply_swaps xs ps) p.0 p.1 ∙ ap (λ z. swap z p.0 p.1) (map_moved xs ps)
 
-  pub shuffled_back : (xs : List X) (ys : List Y) → IsPermutation (map f xs) ys → (zs : List X) × (ys ≡ map f zs) × IsPermutation xs zs
-  shuffled_back xs ys h = (
+  pub permutation_back : (xs : List X) (ys : List Y) → IsPermutation (map f xs) ys → (zs : List X) × (ys ≡ map f zs) × IsPermutation xs zs
+  permutation_back xs ys h = (
     apply_swaps xs h.moves,
     h.is ∙ sym (map_moved xs h.moves),
     record { moves = h.moves; below = subst (λ n. SwapsInRange n h.moves) (length-map xs f) h.below; is = refl },

@@ -1,16 +1,19 @@
 // The order of a dredger's contracts.
 ghost use Rattle.ranking.specs.Rank.{RankOrders, RulesOrder};
+ghost use Rattle.std.specs.Prelude.{IsTrue};
 
 // Every rule is a strict order in which any two contracts compare.
 pub fn rules_are_orders() -> bool
-    ensures { RulesOrder }
+    ensures told { IsTrue result }
+    ensures orders { RulesOrder }
 {
     true
 }
 
 // Ranking above is a strict order in which any two contracts of one dredger compare.
 pub fn rank_is_an_order() -> bool
-    ensures { RankOrders }
+    ensures told { IsTrue result }
+    ensures orders { RankOrders }
 {
     true
 }

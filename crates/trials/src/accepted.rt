@@ -2,7 +2,6 @@
 use crate::case::{counts_of, judged};
 use crate::samples::{P, P_COUNTS, Q, Q_COUNTS};
 use std::process::Abort;
-use std::test::Fail;
 
 // A deck, and its counts: groups, seats, reserves, trainees, wishes, bars.
 #[derive(Clone, Copy)]
@@ -57,18 +56,16 @@ const EQUALS: [Good; 6] = [
     ),
 ];
 
-fn all_accepted(rt: &impl Abort, what: &str, cases: &[Good]) -> Result<(), Fail> {
+fn all_accepted(rt: &impl Abort, what: &str, cases: &[Good]) {
     for (i, case) in cases.iter().enumerate() {
         assert_eq!(rt; judged(case.0), Ok(counts_of(case.1)), "{what}, case {i}");
     }
-    Ok(())
 }
 
 #[test]
-fn parts_and_repeats(rt: HostRuntime) -> Result<(), Fail> {
-    all_accepted(&rt, "parts", &PARTS)?;
-    all_accepted(&rt, "equals", &EQUALS)?;
+fn parts_and_repeats(rt: HostRuntime) {
+    all_accepted(&rt, "parts", &PARTS);
+    all_accepted(&rt, "equals", &EQUALS);
     assert_eq!(rt; judged(P), Ok(P_COUNTS));
     assert_eq!(rt; judged(Q), Ok(Q_COUNTS));
-    Ok(())
 }

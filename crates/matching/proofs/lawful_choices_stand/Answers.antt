@@ -1,5 +1,8 @@
 use Rattle.matching.proofs.Paths.{settled, path_independent}
 use Rattle.matching.proofs.lawful_choices_stand.Goals as goal
 
-pub returns : goal.returns
-returns c = record { settled = settled; paths = path_independent }
+pub returns-clause-settled : goal.returns-clause-settled
+returns-clause-settled c = settled
+
+pub returns-clause-paths : goal.returns-clause-paths
+returns-clause-paths c = path_independent

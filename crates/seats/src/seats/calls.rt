@@ -1,5 +1,5 @@
 // Making a board of seats, and seating.
-ghost use Rattle.std.specs.Prelude.{◌≡◌, ◌<◌, ◌≤◌, length, take};
+ghost use Rattle.std.specs.Prelude.{◌≡◌, ◌<◌, ◌≤◌, IsTrue, length, take};
 ghost use Rattle.deck.specs.Contents.{data_of};
 ghost use Rattle.rules.specs.Contents.{seat_at};
 ghost use Rattle.seats.specs.Best.{AllFollow};
@@ -37,7 +37,8 @@ impl Seats {
 
     // What one seat takes, in plain words.
     pub fn follow_their_rule(&self) -> bool
-        ensures { AllFollow self.now.seats self.now.count }
+        ensures told { IsTrue result }
+        ensures follow { AllFollow self.now.seats self.now.count }
     {
         true
     }

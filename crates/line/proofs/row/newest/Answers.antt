@@ -1,6 +1,0 @@
-use Rattle.std.proofs.Common.{rules}
-use Rattle.line.proofs.Ends.{joins_end, takes_oldest, takes_newest}
-use Rattle.line.proofs.row.newest.Goals as goal
-
-pub returns : goal.returns
-returns c = search (rules, joins_end, takes_oldest, takes_newest)
