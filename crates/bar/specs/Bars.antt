@@ -1,5 +1,6 @@
 -- Barred contracts.
-use Rattle.std.specs.Prelude.{ℕ, ◌+◌, ◌<◌, ◌≤◌, Bool, false, cond, ◌&&◌, ◌||◌, List, [], ◌∷◌, ◌==◌, slice_index_or}
+use Rattle.std.specs.Prelude.{ℕ, ◌+◌, ◌<◌, ◌≤◌, Bool, cond, ◌&&◌, List, ◌==◌, slice_index_or}
+use Rattle.std.specs.List.{list_any}
 use Rattle.rules.specs.declared.table.Barring.{Barring}
 use Rattle.rules.specs.declared.table.Contract.{Contract}
 use Rattle.rules.specs.Contents.{bar_at, contract_at}
@@ -12,8 +13,7 @@ hits p c = p.trainee == c.trainee && p.dredger == c.dredger
 
 -- one of the pairs bars the contract
 abbrev pub bars : List Barring → Contract → Bool
-bars [] c = false
-bars (p ∷ ps) c = hits p c || bars ps c
+bars ps c = list_any (λ p. hits p c) ps
 
 -- the contracts that are barred
 abbrev pub barred : List Barring → List Contract → Set

@@ -24,3 +24,8 @@ Explained kept reason n marks k (Err e) = number e ≡ asks_contract n (length m
 abbrev pub Asked : ℕ → List ℕ → ℕ → Result Bool Unfit → Type 0
 Asked n marks k (Ok b) = (length marks ≡ n) × (k < n) × (b ≡ member marks k)
 Asked n marks k (Err e) = number e ≡ asks_contract n (length marks) k
+
+-- whether the marks fit a deck of n contracts
+abbrev pub Fitting : ℕ → List ℕ → Result Unit Unfit → Type 0
+Fitting n marks (Ok x) = length marks ≡ n
+Fitting n marks (Err e) = number e ≡ asks_marks n (length marks)

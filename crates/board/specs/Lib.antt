@@ -2,3 +2,4 @@ pub mod Marks
 pub mod Refusals
 pub mod Decks
 pub mod Calls
+pub mod Marked

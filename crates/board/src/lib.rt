@@ -3,5 +3,6 @@
 
 pub mod board;
 pub mod explain;
+pub mod marked;
 pub mod marks;
 pub mod unfit;

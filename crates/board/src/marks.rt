@@ -1,12 +1,22 @@
 // Lists of contracts, as marks.
 ghost use Rattle.std.specs.Prelude.{◌≡◌, ℕ, ◌<◌, length, if◌then◌else◌, slice_index};
-ghost use Rattle.board.specs.Calls.{Asked};
-ghost use Rattle.board.specs.Marks.{member};
+ghost use Rattle.board.specs.Calls.{Asked, Fitting};
+ghost use Rattle.board.specs.Marks.{Answers, marked, member};
 ghost use Rattle.deck.specs.Contents.{data_of};
-ghost use Rattle.matching.specs.Sets.{minus};
+ghost use Rattle.matching.specs.Sets.{Set, common, minus};
 
 use crate::unfit::Unfit;
 use deck::deck::Deck;
+
+// Are there as many marks as the deck has contracts?
+pub fn fit(deck: &Deck, marks: &[u8]) -> Result<(), Unfit>
+    ensures { Fitting (length (data_of deck.now).contracts) marks.now result }
+{
+    if marks.len() != deck.contracts().len() {
+        return Err(Unfit::Marks);
+    }
+    Ok(())
+}
 
 // Is contract k in the list? Beyond the end of the marks there is none.
 pub fn is_in(marks: &[u8], k: usize) -> bool
@@ -19,34 +29,46 @@ pub fn is_in(marks: &[u8], k: usize) -> bool
 pub fn is_listed(deck: &Deck, marks: &[u8], k: u16) -> Result<bool, Unfit>
     ensures { Asked (length (data_of deck.now).contracts) marks.now k result }
 {
-    let n = deck.contracts().len();
-    if marks.len() != n {
-        return Err(Unfit::Marks);
-    }
-    if k as usize >= n {
+    fit(deck, marks)?;
+    if k as usize >= marks.len() {
         return Err(Unfit::Contract);
     }
     Ok(is_in(marks, k as usize))
 }
 
+// Writes this byte at each contract of a list; marks beyond the end are left out.
+fn write(marks: &mut [u8], list: &[u8], byte: u8)
+    ensures { (k : ℕ) → k < length marks.old → slice_index marks.new k ≡ (if member list.now k then byte else slice_index marks.old k) }
+{
+    for (k, mark) in marks.iter_mut().enumerate() {
+        if is_in(list, k) {
+            *mark = byte;
+        }
+    }
+}
+
 // Takes the contracts of `out` out of the marks.
+#[tactic(auto, using(crate::proofs::Marking::struck))]
 pub fn take_out(marks: &mut [u8], out: &[u8])
     ensures { member marks.new ≡ minus (member marks.old) (member out.now) }
 {
-    for k in 0..marks.len() {
-        if is_in(out, k) {
-            marks[k] = 0;
-        }
-    }
+    write(marks, out, 0);
 }
 
 // Writes 1 for each contract of `more`; marks beyond the end are left out.
 pub fn put_in(marks: &mut [u8], more: &[u8])
     ensures { (k : ℕ) → k < length marks.old → slice_index marks.new k ≡ (if member more.now k then 1 else slice_index marks.old k) }
 {
-    for k in 0..marks.len() {
-        if is_in(more, k) {
-            marks[k] = 1;
-        }
+    write(marks, more, 1);
+}
+
+// Writes 1 for each contract of the marks that a test keeps, else 0.
+pub fn keep_only<F: Fn(usize) -> bool>(marks: &mut [u8], keeps: F)
+    requires { (k : ℕ) → k < length marks.old → F.pre keeps k }
+    ensures { (p : Set) → Answers (λ f k b. F.post f k b) keeps (length marks.old) p →
+        marks.new ≡ marked (length marks.old) (common (member marks.old) p) }
+{
+    for (k, mark) in marks.iter_mut().enumerate() {
+        *mark = u8::from(*mark != 0 && keeps(k));
     }
 }

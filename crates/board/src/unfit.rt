@@ -10,11 +10,12 @@ pub enum Unfit {
     Contract,
 }
 
-impl Unfit {
-    pub fn number(&self) -> u8
-        ensures { result ≡ number self.now }
-    {
-        match self {
+// The number of the refusal.
+impl From<Unfit> for u8 {
+    ghost from_gives = { λ x y. y ≡ number x };
+
+    fn from(unfit: Unfit) -> u8 {
+        match unfit {
             Unfit::Marks => 31,
             Unfit::Contract => 32,
         }

@@ -1,4 +1,5 @@
 // What the rules say of lists on a board, and what the board says.
+use arrayvec::ArrayVec;
 use board::explain::Explain;
 use board::unfit::Unfit;
 use deck::deck::Deck;
@@ -10,18 +11,12 @@ pub struct Trial(pub &'static [u8], pub &'static [(u8, u16)]);
 
 // The number of a refusal, 0 for none.
 pub fn number_of(answer: Result<(), Unfit>) -> u8 {
-    match answer {
-        Ok(()) => 0,
-        Err(unfit) => unfit.number(),
-    }
+    answer.map_or_else(u8::from, |()| 0)
 }
 
 // What is said, or the number of the refusal.
 pub fn said(answer: Result<(u8, u16), Unfit>) -> Result<(u8, u16), u8> {
-    match answer {
-        Ok(pair) => Ok(pair),
-        Err(unfit) => Err(unfit.number()),
-    }
+    answer.map_err(u8::from)
 }
 
 // `what` says which board and deck it is, `number` which list.
@@ -34,32 +29,27 @@ fn agrees_on<B: Explain>(
     list: &[u8],
     pairs: &[(u8, u16)],
 ) {
-    let n = list.len();
-    assert!(rt; n <= 16 && pairs.len() == n, "{what}, list {number}");
-    let mut own = [0u8; 16];
-    let marks = &mut own[0..n];
-    marks.copy_from_slice(list);
+    assert!(rt;
+        list.len() <= 16 && list.len() == pairs.len(),
+        "{what}, list {number}"
+    );
+    let mut marks: ArrayVec<u8, 16> = ArrayVec::try_from(list).unwrap();
     assert_eq!(rt;
-        number_of(board.choose(deck, marks)),
+        number_of(board.choose(deck, &mut marks)),
         0,
         "{what}, list {number}"
     );
-    for k in 0..16u16 {
-        let at = k as usize;
-        if at < pairs.len() {
-            let pair = pairs[at];
-            let mark = if pair.0 == 0 { 1 } else { 0 };
-            assert_eq!(rt;
-                marks.get(at).copied(),
-                Some(mark),
-                "{what}, list {number}, mark {k}"
-            );
-            assert_eq!(rt;
-                said(board.why(deck, list, k)),
-                Ok(pair),
-                "{what}, list {number}, contract {k}"
-            );
-        }
+    for (k, pair) in pairs.iter().enumerate() {
+        assert_eq!(rt;
+            marks.get(k).copied(),
+            Some(u8::from(pair.0 == 0)),
+            "{what}, list {number}, mark {k}"
+        );
+        assert_eq!(rt;
+            said(board.why(deck, list, k as u16)),
+            Ok(*pair),
+            "{what}, list {number}, contract {k}"
+        );
     }
 }
 

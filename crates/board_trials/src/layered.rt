@@ -1,5 +1,5 @@
 // Layers on a board that keeps what has points enough.
-use crate::book::Book;
+use crate::book::DeckBook;
 use crate::case::{Trial, agrees, number_of};
 use crate::decks::{P, R};
 use bar::bar::Bar;
@@ -184,7 +184,7 @@ const BARRED: [Trial; 1] = [Trial(
 
 #[test]
 fn layers_on_a_threshold(rt: HostRuntime) -> Result<(), Fail> {
-    let book = Book::of(R)?;
+    let book = DeckBook::of(R)?;
     let deck = book.deck();
     agrees(
         &rt,
@@ -210,7 +210,7 @@ fn layers_on_a_threshold(rt: HostRuntime) -> Result<(), Fail> {
 // The same layers by one call.
 #[test]
 fn a_pile_is_made_of_the_deck(rt: HostRuntime) -> Result<(), Fail> {
-    let book = Book::of(R)?;
+    let book = DeckBook::of(R)?;
     let deck = book.deck();
     let mut marks = [1u8; 9];
     assert_eq!(rt; number_of(choose_enough(55, &deck, &mut marks)), 0);
@@ -242,9 +242,9 @@ const OF_P: [Trial; 1] = [Trial(
 
 #[test]
 fn layers_keep_what_they_were_made_of(rt: HostRuntime) -> Result<(), Fail> {
-    let p_book = Book::of(P)?;
+    let p_book = DeckBook::of(P)?;
     let p = p_book.deck();
-    let r_book = Book::of(R)?;
+    let r_book = DeckBook::of(R)?;
     let r = r_book.deck();
     let of_r = Bar::of(Reserve::of(Threshold { least: 65 }, &r), &r);
     agrees(&rt, "of R", &of_r, &p, &OF_R);

@@ -1,5 +1,5 @@
 // Layers on the library's own boards.
-use crate::book::Book;
+use crate::book::DeckBook;
 use crate::case::{Trial, agrees};
 use crate::decks::{P_BARRED, P_RESERVED, PILED};
 use bar::bar::Bar;
@@ -29,11 +29,11 @@ const ON_BARRED: [Trial; 1] = [Trial(
 
 #[test]
 fn layers_on_quotas(rt: HostRuntime) -> Result<(), Fail> {
-    let reserved_book = Book::of(P_RESERVED)?;
+    let reserved_book = DeckBook::of(P_RESERVED)?;
     let reserved = reserved_book.deck();
     let reserve = Reserve::of(Quota::of(&reserved), &reserved);
     agrees(&rt, "reserve", &reserve, &reserved, &ON_RESERVED);
-    let barred_book = Book::of(P_BARRED)?;
+    let barred_book = DeckBook::of(P_BARRED)?;
     let barred = barred_book.deck();
     let pile = Bar::of(Reserve::of(Quota::of(&barred), &barred), &barred);
     agrees(&rt, "bar", &pile, &barred, &ON_BARRED);
@@ -67,7 +67,7 @@ const SEATS_PILE: [Trial; 2] = [
 
 #[test]
 fn whole_piles(rt: HostRuntime) -> Result<(), Fail> {
-    let book = Book::of(PILED)?;
+    let book = DeckBook::of(PILED)?;
     let deck = book.deck();
     let quotas = Bar::of(Reserve::of(Quota::of(&deck), &deck), &deck);
     agrees(&rt, "quota", &quotas, &deck, &QUOTA_PILE);

@@ -1,5 +1,5 @@
 // The quota board.
-use crate::book::Book;
+use crate::book::DeckBook;
 use crate::case::{Trial, agrees};
 use crate::decks::{DEEP, NARROW, P};
 use quota::quota::Quota;
@@ -30,10 +30,10 @@ const ON_NARROW: [Trial; 2] = [
 
 #[test]
 fn quotas_count_upwards(rt: HostRuntime) -> Result<(), Fail> {
-    let p_book = Book::of(P)?;
+    let p_book = DeckBook::of(P)?;
     let p = p_book.deck();
     agrees(&rt, "P", &Quota::of(&p), &p, &ON_P);
-    let narrow_book = Book::of(NARROW)?;
+    let narrow_book = DeckBook::of(NARROW)?;
     let narrow = narrow_book.deck();
     agrees(&rt, "narrow", &Quota::of(&narrow), &narrow, &ON_NARROW);
     Ok(())
@@ -92,7 +92,7 @@ const ON_DEEP: [Trial; 3] = [
 
 #[test]
 fn three_levels_and_equal_points(rt: HostRuntime) -> Result<(), Fail> {
-    let book = Book::of(DEEP)?;
+    let book = DeckBook::of(DEEP)?;
     let deck = book.deck();
     agrees(&rt, "three levels", &Quota::of(&deck), &deck, &ON_DEEP);
     Ok(())
@@ -112,11 +112,11 @@ const BY_NARROW: [Trial; 1] = [Trial(
 
 #[test]
 fn quotas_of_another_deck(rt: HostRuntime) -> Result<(), Fail> {
-    let p_book = Book::of(P)?;
+    let p_book = DeckBook::of(P)?;
     let p = p_book.deck();
-    let deep = Book::of(DEEP)?;
+    let deep = DeckBook::of(DEEP)?;
     agrees(&rt, "deep", &Quota::of(&deep.deck()), &p, &BY_DEEP);
-    let narrow = Book::of(NARROW)?;
+    let narrow = DeckBook::of(NARROW)?;
     agrees(&rt, "narrow", &Quota::of(&narrow.deck()), &p, &BY_NARROW);
     Ok(())
 }

@@ -1,5 +1,5 @@
 // Refusals, which leave the marks as they were.
-use crate::book::Book;
+use crate::book::DeckBook;
 use crate::case::{number_of, said};
 use crate::decks::R;
 use bar::bar::Bar;
@@ -47,7 +47,7 @@ fn check_refusals<B: Explain>(rt: &impl Abort, what: &str, board: &B, deck: &Dec
 
 #[test]
 fn boards_and_layers_refuse(rt: HostRuntime) -> Result<(), Fail> {
-    let book = Book::of(R)?;
+    let book = DeckBook::of(R)?;
     let deck = book.deck();
     let board = Threshold { least: 50 };
     check_refusals(&rt, "threshold", &board, &deck);
@@ -71,7 +71,7 @@ fn an_empty_deck_has_no_marks(rt: HostRuntime) {
 // Either list may be too short, and then neither is changed.
 #[test]
 fn shortlists_ask_both_lengths(rt: HostRuntime) -> Result<(), Fail> {
-    let book = Book::of(R)?;
+    let book = DeckBook::of(R)?;
     let deck = book.deck();
     let board = Threshold { least: 50 };
     let mut whole = [2u8; 9];

@@ -1,5 +1,5 @@
 // The seats board.
-use crate::book::Book;
+use crate::book::DeckBook;
 use crate::case::{Trial, agrees};
 use crate::decks::{P, P_SEATED, SEATED};
 use seats::seats::Seats;
@@ -65,10 +65,10 @@ const ON_SEATED: [Trial; 3] = [
 
 #[test]
 fn seats_take_turns(rt: HostRuntime) -> Result<(), Fail> {
-    let p_book = Book::of(P_SEATED)?;
+    let p_book = DeckBook::of(P_SEATED)?;
     let p = p_book.deck();
     agrees(&rt, "P", &Seats::of(&p), &p, &ON_P);
-    let book = Book::of(SEATED)?;
+    let book = DeckBook::of(SEATED)?;
     let deck = book.deck();
     agrees(&rt, "three rules", &Seats::of(&deck), &deck, &ON_SEATED);
     Ok(())
@@ -97,9 +97,9 @@ const BY_P: [Trial; 1] = [Trial(
 
 #[test]
 fn seats_of_another_deck(rt: HostRuntime) -> Result<(), Fail> {
-    let p_book = Book::of(P)?;
+    let p_book = DeckBook::of(P)?;
     let p = p_book.deck();
-    let book = Book::of(SEATED)?;
+    let book = DeckBook::of(SEATED)?;
     let deck = book.deck();
     agrees(&rt, "seats", &Seats::of(&deck), &p, &BY_SEATED);
     agrees(&rt, "no seats", &Seats::of(&p), &deck, &BY_P);

@@ -1,5 +1,5 @@
 // What the laws give on any board.
-use crate::book::Book;
+use crate::book::DeckBook;
 use crate::case::number_of;
 use crate::decks::R;
 use guest::laws::{choose_shortlists, choose_twice};
@@ -10,7 +10,7 @@ use std::test::Fail;
 // The shortlists are {0, 2} and {1, 4, 8}. Of both joined 0 falls out: 8 and 2 have the two places, and 0 has fewer than 55 points.
 #[test]
 fn shortlists_are_joined(rt: HostRuntime) -> Result<(), Fail> {
-    let book = Book::of(R)?;
+    let book = DeckBook::of(R)?;
     let deck = book.deck();
     let board = Reserve::of(Threshold { least: 55 }, &deck);
     let mut first = [1, 0, 2, 0, 0, 0, 255, 0, 0];
@@ -25,7 +25,7 @@ fn shortlists_are_joined(rt: HostRuntime) -> Result<(), Fail> {
 // Of all, {1, 2, 3, 4, 7, 8} are kept, and all of them again.
 #[test]
 fn choosing_twice_is_choosing_once(rt: HostRuntime) -> Result<(), Fail> {
-    let book = Book::of(R)?;
+    let book = DeckBook::of(R)?;
     let deck = book.deck();
     let board = Reserve::of(Threshold { least: 55 }, &deck);
     let mut marks = [9u8; 9];

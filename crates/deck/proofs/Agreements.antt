@@ -5,18 +5,9 @@ use Rattle.rules.specs.Contents.{Content}
 use Rattle.intake.specs.declared.counts.Counts.{Counts}
 use Rattle.intake.specs.Rows.{Row, listed}
 use Rattle.intake.specs.Book.{Fills}
-use Rattle.intake.specs.Fillings.{Held, Holds}
+use Rattle.intake.specs.Fillings.{Full, Held, Holds}
 use Rattle.intake.proofs.Unique.{one_row}
 use Rattle.deck.specs.Alike.{Extends, Matches, Fits}
-
--- tables that are just large enough
-pub record Exact (t : Content) : Type 0 where
-  pub groups : length t.groups ≡ 64
-  pub seats : length t.seats ≡ 256
-  pub reserves : length t.reserves ≡ 64
-  pub trainees : length t.trainees ≡ 256
-  pub contracts : length t.contracts ≡ 2048
-  pub bars : length t.bars ≡ 128
 
 module _ {A : Type 0} (d : A) (xs own given : List A) (n : ℕ) (h : Held d xs n own) where
   own_long : length xs ≤ length own
@@ -38,7 +29,7 @@ module _ {A : Type 0} (d : A) (xs own given : List A) (n : ℕ) (h : Held d xs n
   given_held : (m : ℕ) → length own ≤ length given → Held d xs m given → Extends d own given
   given_held m le g = record { long = le; same = g.filled ∙ sym (seam le) }
 
-pub agreed : (all : List ℕ) (own given : Content) (had said : Counts) → Exact own → Fills all had own → Matches own had given said → Fits all said given
+pub agreed : (all : List ℕ) (own given : Content) (had said : Counts) → Full own → Fills all had own → Matches own had given said → Fits all said given
 agreed all own given had said x f m =
     let h = f.2 in
     let a = m.groups.long in let b = m.seats.long in let c = m.reserves.long in
@@ -70,7 +61,7 @@ same-counts y had said own given h g =
     ≡ record { groups = said.groups; seats = said.seats; reserves = said.reserves; trainees = said.trainees; wishes = said.wishes; bars = said.bars } = cc in
     z
 
-pub matched : (all : List ℕ) (own given : Content) (had said : Counts) → Exact own → Fills all had own → Fits all said given → Matches own had given said
+pub matched : (all : List ℕ) (own given : Content) (had said : Counts) → Full own → Fills all had own → Fits all said given → Matches own had given said
 matched all own given had said x f k =
     let r = k.0 in
     let h = f.2 in

@@ -1,26 +1,37 @@
--- A table that goes on blank where another ends, entry by entry.
-use Rattle.std.proofs.Common.{◌-◌, ◌<◌, ◌≤◌, List, ◌++◌, length, get_or, replicate, sym, refl, ap, ◌∙◌, inl, inr, arith, length-append, ext_get_or}
+-- A table that goes on blank where another ends.
+use Rattle.std.proofs.Common.{◌≡◌, ℕ, ◌-◌, ◌≤◌, Bool, true, List, ◌++◌, length, take, drop, replicate, All, Decides, sym, refl, ap, ◌∙◌, subst, arith, take_all, length-drop, ext_get_or}
 use lib.ListN.{length-replicate, get_or-replicate}
-use Rattle.std.proofs.lemmas.List.{get_or_append_left, get_or-append_right}
-use Rattle.std.proofs.lemmas.Bool.{cases_lt}
-use Rattle.deck.specs.Alike.{Front, BlankFrom, Extends}
+use lib.Seq.{drop-append_seam}
+use Rattle.std.specs.List.{starts_with}
+use Rattle.std.proofs.lemmas.List.Elements.{All-replicate}
+use Rattle.std.proofs.lemmas.Slice.Eq.{starts_is}
+use Rattle.deck.specs.Alike.{Front, Extends}
+
+-- what `starts_with` tells, where equal entries are the same
+pub front_is : {A : Type 0} (E : A → A → Bool) → ((x y : A) → Decides (E x y) (x ≡ y)) → (xs ys : List A) (r : Bool) → (r ≡ true → length xs ≤ length ys) → r ≡ starts_with E ys xs → Decides r (Front xs ys)
+front_is E same xs ys r le e =
+    let h = starts_is same ys xs r e in
+    ((λ t. record { long = le t; same = h.0 t }), (λ f. h.1 (drop (length xs) ys) f.same))
 
 module _ {A : Type 0} (d : A) (xs ys : List A) where
-  pub joined : length xs ≤ length ys → Front d xs ys → BlankFrom d (length xs) ys → Extends d xs ys
-  joined le f b = record {
-    long = le;
-    same = ext_get_or d ys (xs ++ replicate (length ys - length xs) d)
-        (simp (length-append, length-replicate) (omega arith))
-        (λ k lt. elim (cases_lt k (length xs)) [
-          | inl h ↦ f k h ∙ sym (get_or_append_left xs (replicate (length ys - length xs) d) d k h)
-          | inr h ↦ b k h lt ∙ sym (get_or-append_right xs (replicate (length ys - length xs) d) (length xs) k d refl h ∙ get_or-replicate (length ys - length xs) (k - length xs) d d (omega arith))
-        ]);
+  rest_is : take (length ys - length xs) (drop (length xs) ys) ≡ drop (length xs) ys
+  rest_is = take_all (length ys - length xs) (drop (length xs) ys) (let e = length-drop (length xs) ys in omega arith)
+
+  after : Extends d xs ys → drop (length xs) ys ≡ replicate (length ys - length xs) d
+  after e = ap (drop (length xs)) e.same ∙ drop-append_seam xs (replicate (length ys - length xs) d)
+
+  blanks_are : (zs : List A) → All (λ (e : A). e ≡ d) zs → zs ≡ replicate (length zs) d
+  blanks_are zs h = ext_get_or d zs (replicate (length zs) d) (sym (length-replicate (length zs) d)) (λ k lt. h k d lt ∙ sym (get_or-replicate (length zs) k d d lt))
+
+  pub extended : Front xs ys → All (λ (e : A). e ≡ d) (take (length ys - length xs) (drop (length xs) ys)) → Extends d xs ys
+  extended f h = record {
+    long = f.long;
+    same = f.same ∙ ap (λ (u : List A). xs ++ u) (blanks_are (drop (length xs) ys) (subst (λ (u : List A). All (λ (e : A). e ≡ d) u) rest_is h))
+        ∙ ap (λ (m : ℕ). xs ++ replicate m d) (length-drop (length xs) ys);
   }
 
-  pub front : Extends d xs ys → Front d xs ys
-  front e k h = ap (λ (l : List A). get_or l k d) e.same ∙ get_or_append_left xs (replicate (length ys - length xs) d) d k h
+  pub rest_blank : Extends d xs ys → All (λ (e : A). e ≡ d) (take (length ys - length xs) (drop (length xs) ys))
+  rest_blank e = subst (λ (u : List A). All (λ (x : A). x ≡ d) u) (sym (rest_is ∙ after e)) (All-replicate (λ (x : A). x ≡ d) (length ys - length xs) d refl)
 
-  pub blank_from : Extends d xs ys → BlankFrom d (length xs) ys
-  blank_from e k h lt =
-      let l : k - length xs < length ys - length xs = omega arith in
-      ap (λ (u : List A). get_or u k d) e.same ∙ get_or-append_right xs (replicate (length ys - length xs) d) (length xs) k d refl h ∙ get_or-replicate (length ys - length xs) (k - length xs) d d l
+  pub front_of : Extends d xs ys → Front xs ys
+  front_of e = record { long = e.long; same = e.same ∙ ap (λ (u : List A). xs ++ u) (sym (after e)) }

@@ -1,4 +1,3 @@
-pub mod Tests
 pub mod Extensions
 pub mod Agreements
 pub mod Pushes

@@ -1,5 +1,5 @@
 -- The facts of a deck's entries, carried along its row.
-use Rattle.std.proofs.Common.{◌≡◌, ℕ, ◌+◌, ◌-◌, ◌<◌, ◌≤◌, Bool, true, false, cond, eqb, List, [], ◌∷◌, ◌++◌, length, get_or, sym, refl, ap, ◌∙◌, subst, inl, inr, arith, length-append, eqb-true, le-leb}
+use Rattle.std.proofs.Common.{◌≡◌, ℕ, Some, None, ◌+◌, ◌-◌, ◌<◌, ◌≤◌, Bool, true, false, cond, eqb, List, [], ◌∷◌, ◌++◌, length, get_or, sym, refl, ap, ◌∙◌, subst, inl, inr, arith, length-append, le-leb}
 use Rattle.std.proofs.lemmas.List.{get_or_append_left, get_or-append_right, get_or_push}
 use Rattle.std.proofs.lemmas.Bool.{cases_Bool}
 use borrow.Author.Tests.{eqb-false}
@@ -7,14 +7,13 @@ use Rattle.format.specs.declared.record.Record.{Record}
 use Rattle.format.specs.declared.record.Record.TheVariants as R
 use Rattle.format.specs.Layout.{encode, Formed}
 use Rattle.rules.specs.declared.table.Group.{Group}
-use Rattle.rules.specs.declared.table.Seat.{Seat}
 use Rattle.rules.specs.declared.table.Reservation.{Reservation}
 use Rattle.rules.specs.declared.table.Trainee.{Trainee}
 use Rattle.rules.specs.declared.table.Contract.{Contract}
 use Rattle.rules.specs.declared.table.Barring.{Barring}
 use Rattle.rules.specs.Contents.{Content, group_at, seat_at, reserve_at, trainee_at, contract_at, bar_at}
 use Rattle.rules.specs.Rules.{IsDredger, Printable, Ruled, current}
-use Rattle.intake.specs.Rows.{Row, none, ◌▸◌, encodes, section_of, listed, entry_of, entry_of_group, entry_of_wish, pushed, Passes, Belongs}
+use Rattle.intake.specs.Rows.{Row, none, ◌▸◌, encodes, section_of, listed, entry_of, parent_of, entry_of_group, entry_of_wish, pushed, Passes, Belongs}
 use Rattle.intake.proofs.Rows.{led, belongs}
 use Rattle.deck.specs.Facts.{printed, ReservesApart, LotsApart, Rising, WishesApart, BarsApart}
 use Rattle.deck.proofs.Pushes.{each_push, pairs_push}
@@ -24,15 +23,11 @@ abbrev pub NameAt : List ℕ → ℕ → Type 0
 NameAt all p = (p + 8 ≤ length all) × ((i : ℕ) → i < 8 → printed (get_or all (p + i) 0) ≡ true)
 
 pub record GroupOk (all : List ℕ) (gs : List Group) (k : ℕ) (a : Group) : Type 0 where
-  pub earlier : (a.parent ≡ 255 → ⊥) → a.parent < k
-  pub own : a.parent ≡ 255 → a.dredger ≡ k
-  pub inherited : (a.parent ≡ 255 → ⊥) → a.dredger ≡ (group_at gs a.parent).dredger
+  pub earlier : (p : ℕ) → a.parent ≡ Some p → p < k
+  pub own : a.parent ≡ None → a.dredger ≡ k
+  pub inherited : (p : ℕ) → a.parent ≡ Some p → a.dredger ≡ (group_at gs p).dredger
   pub topped : IsDredger gs a.dredger
   pub named : NameAt all a.name
-
-pub record SeatOk (gs : List Group) (a : Seat) : Type 0 where
-  pub given : IsDredger gs a.dredger
-  pub rule : a.rule ≤ 2
 
 pub record ContractOk (gs : List Group) (ts : List Trainee) (a : Contract) : Type 0 where
   pub trainee : a.trainee < length ts
@@ -48,7 +43,7 @@ pub record BarOk (gs : List Group) (ts : List Trainee) (a : Barring) : Type 0 wh
 
 pub record Sound (all : List ℕ) (t : Content) : Type 0 where
   pub groups : (k : ℕ) → k < length t.groups → GroupOk all t.groups k (group_at t.groups k)
-  pub seats : (k : ℕ) → k < length t.seats → SeatOk t.groups (seat_at t.seats k)
+  pub seats : (k : ℕ) → k < length t.seats → IsDredger t.groups (seat_at t.seats k).dredger
   pub reserves : (k : ℕ) → k < length t.reserves → IsDredger t.groups (reserve_at t.reserves k).dredger
   pub reserves_apart : ReservesApart t.reserves
   pub trainees : (k : ℕ) → k < length t.trainees → NameAt all (trainee_at t.trainees k).name
@@ -103,8 +98,8 @@ group_wider : (all : List ℕ) (gs : List Group) (g : Group) (k : ℕ) (a : Grou
 group_wider all gs g k a le h = record {
   earlier = h.earlier;
   own = h.own;
-  inherited = λ ne. let lt = h.earlier ne in let l : a.parent < length gs = omega arith in
-      h.inherited ne ∙ sym (ap (λ (y : Group). y.dredger) (get_or_append_left gs (g ∷ []) _ a.parent l));
+  inherited = λ p e. let lt = h.earlier p e in let l : p < length gs = omega arith in
+      h.inherited p e ∙ sym (ap (λ (y : Group). y.dredger) (get_or_append_left gs (g ∷ []) _ p l));
   topped = dredger_wider gs g a.dredger h.topped;
   named = h.named;
 }
@@ -140,8 +135,12 @@ name_at_lem b head n hl nl p =
           ∙ ap (λ (k : ℕ). get_or (head ++ n) k 0) (let z : length b + 4 + i - length b ≡ 4 + i = omega arith in z)
           ∙ get_or-append_right head n 4 (4 + i) 0 hl (omega arith)
           ∙ ap (λ (k : ℕ). get_or n k 0) (let z : 4 + i - 4 ≡ i = omega arith in z) in
-          subst (λ (y : ℕ). printed y ≡ true) (sym e) (is_printed (get_or n i 0) (p i (omega arith))),
+          subst (λ (y : ℕ). printed y ≡ true) (sym e) (is_printed (get_or n i 0) (p i 0 (omega arith))),
     )
+
+-- a parent is there or not
+some_none : {X : Type 0} (p : ℕ) → Some p ≡ None → X
+some_none p e = absurd (let z : ◌≡◌ {A = ℕ} 0 1 = cc in omega arith)
 
 -- the entry of a new group
 new_group : (all : List ℕ) (t : Content) (p c q : ℕ) → ((p ≡ 255 → ⊥) → p < length t.groups) → NameAt all (q + 4) → Sound all t →
@@ -150,13 +149,13 @@ new_group all t p c q h m s = elim (cases_Bool (eqb p 255)) [ inl e ↦ root e |
   where
     root : eqb p 255 ≡ true → GroupOk all (t.groups ++ (entry_of_group t q p c ∷ [])) (length t.groups) (entry_of_group t q p c)
     root b =
-        let e = eqb-true p 255 b in
+        let e : parent_of p ≡ None = ap (λ (y : Bool). cond y None (Some p)) b in
         let z = ap (λ (y : Bool). cond y (length t.groups) (group_at t.groups p).dredger) b in
         let n = length-append t.groups (entry_of_group t q p c ∷ []) in
         record {
-          earlier = λ ne. absurd (ne e);
+          earlier = λ a k. some_none a (sym k ∙ e);
           own = λ _. z;
-          inherited = λ ne. absurd (ne e);
+          inherited = λ a k. some_none a (sym k ∙ e);
           topped = subst (λ (d : ℕ). IsDredger (t.groups ++ (entry_of_group t q p c ∷ [])) d) (sym z)
               (omega arith, ap (λ (y : Group). y.parent) (get_or_push t.groups (entry_of_group t q p c) _ (length t.groups) refl) ∙ e);
           named = m;
@@ -165,12 +164,14 @@ new_group all t p c q h m s = elim (cases_Bool (eqb p 255)) [ inl e ↦ root e |
     inner : eqb p 255 ≡ false → GroupOk all (t.groups ++ (entry_of_group t q p c ∷ [])) (length t.groups) (entry_of_group t q p c)
     inner b =
         let ne = eqb-false p 255 b in
+        let e : parent_of p ≡ Some p = ap (λ (y : Bool). cond y None (Some p)) b in
         let z = ap (λ (y : Bool). cond y (length t.groups) (group_at t.groups p).dredger) b in
         let lt = h ne in
+        let same : (a : ℕ) → parent_of p ≡ Some a → p ≡ a = λ a k. let u = sym e ∙ k in cc in
         record {
-          earlier = h;
-          own = λ e. absurd (ne e);
-          inherited = λ _. z ∙ sym (ap (λ (y : Group). y.dredger) (get_or_append_left t.groups (entry_of_group t q p c ∷ []) _ p lt));
+          earlier = λ a k. subst (λ (x : ℕ). x < length t.groups) (same a k) lt;
+          own = λ k. some_none p (sym e ∙ k);
+          inherited = λ a k. z ∙ sym (ap (λ (y : Group). y.dredger) (get_or_append_left t.groups (entry_of_group t q p c ∷ []) _ p lt)) ∙ ap (λ (x : ℕ). (group_at (t.groups ++ (entry_of_group t q p c ∷ [])) x).dredger) (same a k);
           topped = subst (λ (d : ℕ). IsDredger (t.groups ++ (entry_of_group t q p c ∷ [])) d) (sym z) (dredger_wider t.groups (entry_of_group t q p c) _ (s.groups p lt).topped);
           named = m;
         }
@@ -184,7 +185,7 @@ sound_more b t (R.Group p c n) f u o s0 =
     let m : NameAt all (length b + 4) = name_at_lem b (71 ∷ p ∷ _ ∷ _ ∷ []) n refl f u.range.1 in
     record {
       groups = each_push _ t.groups g (λ k a. GroupOk all (t.groups ++ (g ∷ [])) k a) (λ k lt. group_wider all t.groups g k _ (omega arith) (s.groups k lt)) (new_group all t p c (length b) u.range.0 m s);
-      seats = λ k lt. record { given = dredger_wider t.groups g _ (s.seats k lt).given; rule = (s.seats k lt).rule };
+      seats = λ k lt. dredger_wider t.groups g _ (s.seats k lt);
       reserves = λ k lt. dredger_wider t.groups g _ (s.reserves k lt);
       contracts = λ k lt. contract_groups t.groups t.trainees g _ (s.contracts k lt);
       bars = λ k lt. record { trainee = (s.bars k lt).trainee; given = dredger_wider t.groups g _ (s.bars k lt).given };
@@ -198,7 +199,7 @@ sound_more b t (R.Group p c n) f u o s0 =
 sound_more b t (R.Seat d q) f u o s0 =
     let s = wider b (encode (R.Seat d q)) t s0 in
     record {
-      seats = each_push _ t.seats _ (λ k a. SeatOk t.groups a) s.seats (record { given = u.range.0; rule = u.range.1 });
+      seats = each_push _ t.seats _ (λ k a. IsDredger t.groups a.dredger) s.seats u.range.0;
       groups = s.groups;
       reserves = s.reserves;
       reserves_apart = s.reserves_apart;
@@ -214,7 +215,7 @@ sound_more b t (R.Reserve d q) f u o s0 =
     let s = wider b (encode (R.Reserve d q)) t s0 in
     record {
       reserves = each_push _ t.reserves _ (λ k a. IsDredger t.groups a.dredger) s.reserves u.range;
-      reserves_apart = pairs_push _ t.reserves _ (λ (x y : Reservation). x.dredger ≡ y.dredger → ⊥) s.reserves_apart u.fresh;
+      reserves_apart = pairs_push _ t.reserves _ (λ (x y : Reservation). x.dredger ≡ y.dredger → ⊥) s.reserves_apart (λ i lt. u.fresh i _ lt);
       groups = s.groups;
       seats = s.seats;
       trainees = s.trainees;
@@ -233,7 +234,7 @@ sound_more b t (R.Trainee l g n) f u o s0 =
     let w = length-append t.trainees (e ∷ []) in
     record {
       trainees = each_push _ t.trainees e (λ k a. NameAt all a.name) s.trainees m;
-      lots_apart = pairs_push _ t.trainees e (λ (x y : Trainee). x.lot ≡ y.lot → ⊥) s.lots_apart u.fresh;
+      lots_apart = pairs_push _ t.trainees e (λ (x y : Trainee). x.lot ≡ y.lot → ⊥) s.lots_apart (λ i lt. u.fresh i _ lt);
       contracts = λ k lt. contract_trainees t.groups t.trainees e _ (s.contracts k lt);
       bars = λ k lt. let h = s.bars k lt in let i = h.trainee in record { trainee = omega arith; given = h.given };
       groups = s.groups;
@@ -252,7 +253,7 @@ sound_more b t (R.Wish g p m) f u o s0 =
       contracts = each_push _ t.contracts e (λ k a. ContractOk t.groups t.trainees a) s.contracts
           (record { trainee = cur; lot = refl; flag = refl; group = u.range.0; dredger = refl; term = u.range.1 });
       rising = pairs_push _ t.contracts e (λ (x y : Contract). x.trainee ≤ y.trainee) s.rising (λ i lt. let h = (s.contracts i lt).trainee in omega arith);
-      wishes_apart = pairs_push _ t.contracts e (λ (x y : Contract). (x.trainee ≡ y.trainee) × (x.dredger ≡ y.dredger) → ⊥) s.wishes_apart (λ i lt q. u.fresh i lt q.0 q.1);
+      wishes_apart = pairs_push _ t.contracts e (λ (x y : Contract). (x.trainee ≡ y.trainee) × (x.dredger ≡ y.dredger) → ⊥) s.wishes_apart (λ i lt q. u.fresh i _ lt q.0 q.1);
       groups = s.groups;
       seats = s.seats;
       reserves = s.reserves;
@@ -268,7 +269,7 @@ sound_more b t (R.Bar d) f u o s0 =
     let cur : current t < length t.trainees = omega arith in
     record {
       bars = each_push _ t.bars e (λ k a. BarOk t.groups t.trainees a) s.bars (record { trainee = cur; given = u.range });
-      bars_apart = pairs_push _ t.bars e (λ (x y : Barring). (x.trainee ≡ y.trainee) × (x.dredger ≡ y.dredger) → ⊥) s.bars_apart (λ i lt q. u.fresh i lt q.0 q.1);
+      bars_apart = pairs_push _ t.bars e (λ (x y : Barring). (x.trainee ≡ y.trainee) × (x.dredger ≡ y.dredger) → ⊥) s.bars_apart (λ i lt q. u.fresh i _ lt q.0 q.1);
       groups = s.groups;
       seats = s.seats;
       reserves = s.reserves;

@@ -1,5 +1,5 @@
 -- What holds of the entries of every deck, for whoever reads one.
-use Rattle.std.specs.Prelude.{◌≡◌, ℕ, ◌+◌, ◌<◌, ◌≤◌, Bool, true, ◌&&◌, List, length, ◌≢◌, nat_le, slice_index}
+use Rattle.std.specs.Prelude.{◌≡◌, ℕ, ◌+◌, ◌<◌, ◌≤◌, Bool, true, ◌&&◌, List, length, Some, None, ◌≢◌, nat_le, slice_index}
 use Rattle.rules.specs.declared.table.Group.{Group}
 use Rattle.rules.specs.declared.table.Seat.{Seat}
 use Rattle.rules.specs.declared.table.Reservation.{Reservation}
@@ -19,15 +19,15 @@ Two i j n = (i < j) × (j < n)
 
 -- a parent is an earlier group
 abbrev pub Earlier : List Group → Type 0
-Earlier gs = (g : ℕ) → g < length gs → ((group_at gs g).parent ≢ 255) → (group_at gs g).parent < g
+Earlier gs = (g p : ℕ) → g < length gs → (group_at gs g).parent ≡ Some p → p < g
 
 -- a group without parent is its own dredger
 abbrev pub Own : List Group → Type 0
-Own gs = (g : ℕ) → g < length gs → (group_at gs g).parent ≡ 255 → (group_at gs g).dredger ≡ g
+Own gs = (g : ℕ) → g < length gs → (group_at gs g).parent ≡ None → (group_at gs g).dredger ≡ g
 
 -- any other has its parent's
 abbrev pub Inherited : List Group → Type 0
-Inherited gs = (g : ℕ) → g < length gs → ((group_at gs g).parent ≢ 255) → (group_at gs g).dredger ≡ (group_at gs (group_at gs g).parent).dredger
+Inherited gs = (g p : ℕ) → g < length gs → (group_at gs g).parent ≡ Some p → (group_at gs g).dredger ≡ (group_at gs p).dredger
 
 -- a group's dredger is a given dredger
 abbrev pub Topped : List Group → Type 0
@@ -40,12 +40,9 @@ GroupNames all gs = (g : ℕ) → g < length gs → (group_at gs g).name + 8 ≤
 abbrev pub GroupsPrinted : List ℕ → List Group → Type 0
 GroupsPrinted all gs = (g i : ℕ) → (g < length gs) × (i < 8) → printed (slice_index all ((group_at gs g).name + i)) ≡ true
 
--- a seat is at a given dredger, and its rule is 0, 1 or 2
+-- a seat is at a given dredger
 abbrev pub SeatsGiven : List Group → List Seat → Type 0
 SeatsGiven gs ss = (k : ℕ) → k < length ss → IsDredger gs (seat_at ss k).dredger
-
-abbrev pub SeatRules : List Seat → Type 0
-SeatRules ss = (k : ℕ) → k < length ss → (seat_at ss k).rule ≤ 2
 
 -- a reserve is at a given dredger, which has no other
 abbrev pub ReservesGiven : List Group → List Reservation → Type 0

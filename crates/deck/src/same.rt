@@ -1,130 +1,86 @@
 // Comparing a table with another that may be longer.
-ghost use Rattle.std.specs.Prelude.{◌≡◌, ℕ, ◌-◌, ◌<◌, ◌≤◌, length, Decides};
-ghost use Rattle.deck.specs.Alike.{BlankFrom, Extends, Front};
-ghost use Rattle.intake.specs.Fillings.{no_group};
-ghost use Rattle.rules.specs.Contents.{zero_barring, zero_contract, zero_reservation, zero_seat, zero_trainee};
+ghost use Rattle.std.proofs.Common.{rules};
+ghost use Rattle.std.specs.Prelude.{◌≡◌, All, Decides};
+ghost use Rattle.deck.specs.Alike.{Extends, Front};
+ghost use Rattle.rules.specs.Contents.{zero_barring, zero_contract, zero_group, zero_reservation, zero_seat, zero_trainee};
 
-use rules::table::{
-    Barring, Contract, Group, NO_BARRING, NO_CONTRACT, NO_GROUP, NO_RESERVATION, NO_SEAT,
-    NO_TRAINEE, Reservation, Seat, Trainee,
-};
+use rules::table::{Barring, Contract, Group, Reservation, Seat, Trainee};
 
-// An entry of a table: it can be blank, and be compared.
-pub trait Entry: Copy {
+// An entry of a table: the default is blank, and entries that compare equal are the same.
+pub trait Entry: Copy + Default + PartialEq {
     ghost blank: { Self };
 
-    fn blank() -> Self
-        ensures { result ≡ blank };
+    ghost blank_is: { (x : Self) → Self.is_default x → x ≡ blank };
 
-    fn same(&self, other: &Self) -> bool
-        ensures { Decides result (self.now ≡ other.now) };
+    ghost same_is: { (x y : Self) → Decides (Self.eq x y) (x ≡ y) };
 }
 
 impl Entry for Group {
-    ghost blank = { no_group };
+    ghost blank = { zero_group };
 
-    fn blank() -> Group {
-        NO_GROUP
-    }
+    ghost blank_is = { Prim.search rules };
 
-    fn same(&self, other: &Group) -> bool {
-        *self == *other
-    }
+    ghost same_is = { Prim.search rules };
 }
 
 impl Entry for Seat {
     ghost blank = { zero_seat };
 
-    fn blank() -> Seat {
-        NO_SEAT
-    }
+    ghost blank_is = { Prim.search rules };
 
-    fn same(&self, other: &Seat) -> bool {
-        *self == *other
-    }
+    ghost same_is = { Prim.search rules };
 }
 
 impl Entry for Reservation {
     ghost blank = { zero_reservation };
 
-    fn blank() -> Reservation {
-        NO_RESERVATION
-    }
+    ghost blank_is = { Prim.search rules };
 
-    fn same(&self, other: &Reservation) -> bool {
-        *self == *other
-    }
+    ghost same_is = { Prim.search rules };
 }
 
 impl Entry for Trainee {
     ghost blank = { zero_trainee };
 
-    fn blank() -> Trainee {
-        NO_TRAINEE
-    }
+    ghost blank_is = { Prim.search rules };
 
-    fn same(&self, other: &Trainee) -> bool {
-        *self == *other
-    }
+    ghost same_is = { Prim.search rules };
 }
 
 impl Entry for Contract {
     ghost blank = { zero_contract };
 
-    fn blank() -> Contract {
-        NO_CONTRACT
-    }
+    ghost blank_is = { Prim.search rules };
 
-    fn same(&self, other: &Contract) -> bool {
-        *self == *other
-    }
+    ghost same_is = { Prim.search rules };
 }
 
 impl Entry for Barring {
     ghost blank = { zero_barring };
 
-    fn blank() -> Barring {
-        NO_BARRING
-    }
+    ghost blank_is = { Prim.search rules };
 
-    fn same(&self, other: &Barring) -> bool {
-        *self == *other
-    }
+    ghost same_is = { Prim.search rules };
 }
 
-// Whether the longer table begins with the entries of the other.
+fn are_blank<T: Entry>(entries: &[T]) -> bool
+    ensures { Decides result (All (λ e. e ≡ T.Entry.blank) entries.now) }
+{
+    let blank = T::default();
+    entries.iter().all(|entry| *entry == blank)
+}
+
+#[tactic(auto, using(crate::proofs::Extensions::front_is))]
 fn begins<T: Entry>(own: &[T], given: &[T]) -> bool
-    requires { length own.now ≤ length given.now }
-    ensures { Decides result (Front T.Entry.blank own.now given.now) }
+    ensures { Decides result (Front own.now given.now) }
 {
-    for i in 0..own.len() {
-        if !given[i].same(&own[i]) {
-            return false;
-        }
-    }
-    true
-}
-
-fn is_blank_from<T: Entry>(given: &[T], n: usize) -> bool
-    ensures { Decides result (BlankFrom T.Entry.blank n given.now) }
-{
-    let blank = T::blank();
-    for i in n..given.len() {
-        if !given[i].same(&blank) {
-            return false;
-        }
-    }
-    true
+    given.starts_with(own)
 }
 
 // Whether a table is another, and blank after it.
+#[tactic(auto, using(crate::proofs::Extensions::extended, crate::proofs::Extensions::rest_blank, crate::proofs::Extensions::front_of))]
 pub fn extends<T: Entry>(own: &[T], given: &[T]) -> bool
     ensures { Decides result (Extends T.Entry.blank own.now given.now) }
 {
-    if own.len() > given.len() {
-        return false;
-    }
-    let front = begins(own, given);
-    let rest = is_blank_from(given, own.len());
-    front && rest
+    begins(own, given) && are_blank(&given[own.len()..])
 }

@@ -13,12 +13,7 @@ kind_by n = cond (eqb n 71) K.Group (cond (eqb n 83) K.Seat (cond (eqb n 82) K.R
 
 kind_by_lem : (k : Kind) → kind_by (letter k) ≡ k
 kind_by_lem K.Group = refl
-kind_by_lem K.Seat = refl
-kind_by_lem K.Reserve = refl
-kind_by_lem K.Trainee = refl
-kind_by_lem K.Wish = refl
-kind_by_lem K.Bar = refl
-kind_by_lem K.End = refl
+kind_by_lem _ = refl
 
 pub one_kind : (rest : List ℕ) (j k : Kind) → Begins rest j → Begins rest k → j ≡ k
 one_kind rest j k a b = sym (kind_by_lem j) ∙ ap kind_by (sym a.1 ∙ b.1) ∙ kind_by_lem k
@@ -50,21 +45,11 @@ record_by_lem (End n) more f = let a = joined n in cc
 
 pub encode_size : (r : Record) → Formed r → length (encode r) ≡ size (kind r)
 encode_size (Group p c n) f = omega arith
-encode_size (Seat d r) f = refl
-encode_size (Reserve d s) f = refl
-encode_size (Trainee l g n) f = omega arith
-encode_size (Wish g p m) f = refl
-encode_size (Bar d) f = refl
-encode_size (End n) f = refl
+encode_size _ f = omega arith
 
 letters : (r : Record) (more : List ℕ) → (0 < length (encode r ++ more)) × (get_or (encode r ++ more) 0 0 ≡ letter (kind r))
 letters (Group p c n) more = (omega arith, refl)
-letters (Seat d r) more = (omega arith, refl)
-letters (Reserve d s) more = (omega arith, refl)
-letters (Trainee l g n) more = (omega arith, refl)
-letters (Wish g p m) more = (omega arith, refl)
-letters (Bar d) more = (omega arith, refl)
-letters (End n) more = (omega arith, refl)
+letters _ more = (omega arith, refl)
 
 -- a whole record begins with its letter, and its body is there
 pub begun : (rest : List ℕ) (r : Record) (more : List ℕ) → Starts rest r more → Begins rest (kind r) × (size (kind r) ≤ length rest)

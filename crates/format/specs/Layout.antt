@@ -1,5 +1,5 @@
 -- The bytes of a record: one byte of kind, then a body whose length the kind fixes.
-use Rattle.std.specs.Prelude.{◌≡◌, ℕ, ◌+◌, ◌/◌, ◌%◌, ◌<◌, ◌≤◌, List, [], ◌∷◌, ◌++◌, length, drop, Some, None, Option, slice_index}
+use Rattle.std.specs.Prelude.{◌≡◌, ℕ, ◌/◌, ◌%◌, ◌<◌, ◌≤◌, List, [], ◌∷◌, ◌++◌, length, drop, slice_index}
 use Rattle.format.specs.declared.record.Kind.{Kind}
 use Rattle.format.specs.declared.record.Kind.TheVariants as K
 use Rattle.format.specs.declared.record.Record.{Record}
@@ -67,22 +67,7 @@ pub record Starts (rest : List ℕ) (r : Record) (more : List ℕ) : Type 0 wher
 abbrev pub Begins : List ℕ → Kind → Type 0
 Begins rest k = (0 < length rest) × (slice_index rest 0 ≡ letter k)
 
--- a record of kind k was found whole at the front of the bytes, or there is none
-abbrev pub Leads : Kind → List ℕ → Option Record → Type 0
-Leads k rest None = Begins rest k → length rest < size k
-Leads k rest (Some r) = (kind r ≡ k) × Formed r × (rest ≡ encode r ++ drop (size k) rest)
-
 -- the bytes begin with this record, whole
 pub record Fronts (rest : List ℕ) (r : Record) : Type 0 where
   pub starts : Starts rest r (drop (size (kind r)) rest)
   pub whole : size (kind r) ≤ length rest
-
--- from place p on, a record was taken off all, and place q is the next one's
-pub record Took (all : List ℕ) (p q : ℕ) (r : Record) : Type 0 where
-  pub starts : Starts (drop p all) r (drop q all)
-  pub moved : q ≡ p + size (kind r)
-
--- from place p on, all begins with a record, whole
-pub record Ahead (all : List ℕ) (p : ℕ) (r : Record) : Type 0 where
-  pub took : Took all p (p + size (kind r)) r
-  pub inside : p + size (kind r) ≤ length all

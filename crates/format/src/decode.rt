@@ -1,6 +1,6 @@
 // Decoding: one slice pattern for each kind of record.
-ghost use Rattle.std.specs.Prelude.{◌≡◌, ℕ, ◌+◌, ◌<◌, ◌≤◌, ◌++◌, length, drop, MatchOption, MatchResult};
-ghost use Rattle.format.specs.Layout.{Begins, Fronts, Leads};
+ghost use Rattle.std.specs.Prelude.{◌<◌, length, MatchOption, MatchResult};
+ghost use Rattle.format.specs.Layout.{Begins, Fronts, size};
 ghost use Rattle.format.specs.Questions.{ByteNo, KindNo};
 
 use crate::fault::ByteFault;
@@ -8,7 +8,7 @@ use crate::record::{Kind, Record};
 
 // The kind whose letter begins `rest`, which stands at `place`.
 pub fn kind_of(rest: &[u8], place: usize) -> Result<Kind, ByteFault>
-    ensures { MatchResult result (λ k. Begins rest.now k) (λ f. KindNo rest.now place f) }
+    ensures { MatchResult result (Begins rest.now) (KindNo rest.now place) }
 {
     match rest {
         [] => Err(ByteFault::NoByte { place }),
@@ -23,124 +23,47 @@ pub fn kind_of(rest: &[u8], place: usize) -> Result<Kind, ByteFault>
     }
 }
 
-// The eight bytes of a name.
-fn name_of(rest: &[u8]) -> Option<[u8; 8]>
-    ensures { MatchOption result (length rest.now < 8) (λ x. (length x ≡ 8) × (rest.now ≡ x ++ drop 8 rest.now)) }
+// The record that begins `rest`, where it is whole.
+fn record_of(rest: &[u8]) -> Option<Record>
+    ensures { MatchOption result ((k : Kind) → Begins rest.now k → length rest.now < size k) (Fronts rest.now) }
 {
-    match rest {
-        [a, b, c, d, e, f, g, h, ..] => Some([*a, *b, *c, *d, *e, *f, *g, *h]),
-        _ => None,
-    }
-}
-
-fn group_of(rest: &[u8]) -> Option<Record>
-    ensures { Leads Kind.Group rest.now result }
-{
-    match rest {
-        [b'G', parent, lo, hi, tail @ ..] => {
-            let name = name_of(tail)?;
-            Some(Record::Group {
-                parent: *parent,
-                capacity: *lo as u16 + 256 * *hi as u16,
-                name,
-            })
-        }
-        _ => None,
-    }
-}
-
-fn seat_of(rest: &[u8]) -> Option<Record>
-    ensures { Leads Kind.Seat rest.now result }
-{
-    match rest {
-        [b'S', dredger, rule, ..] => Some(Record::Seat {
+    let record = match rest {
+        [b'G', parent, lo, hi, name @ ..] => Record::Group {
+            parent: *parent,
+            capacity: u16::from_le_bytes([*lo, *hi]),
+            name: *name.first_chunk()?,
+        },
+        [b'S', dredger, rule, ..] => Record::Seat {
             dredger: *dredger,
             rule: *rule,
-        }),
-        _ => None,
-    }
-}
-
-fn reserve_of(rest: &[u8]) -> Option<Record>
-    ensures { Leads Kind.Reserve rest.now result }
-{
-    match rest {
-        [b'R', dredger, lo, hi, ..] => Some(Record::Reserve {
+        },
+        [b'R', dredger, lo, hi, ..] => Record::Reserve {
             dredger: *dredger,
-            seats: *lo as u16 + 256 * *hi as u16,
-        }),
-        _ => None,
-    }
-}
-
-fn trainee_of(rest: &[u8]) -> Option<Record>
-    ensures { Leads Kind.Trainee rest.now result }
-{
-    match rest {
-        [b'T', lo, hi, flag, tail @ ..] => {
-            let name = name_of(tail)?;
-            Some(Record::Trainee {
-                lot: *lo as u16 + 256 * *hi as u16,
-                flag: *flag,
-                name,
-            })
-        }
-        _ => None,
-    }
-}
-
-fn wish_of(rest: &[u8]) -> Option<Record>
-    ensures { Leads Kind.Wish rest.now result }
-{
-    match rest {
-        [b'W', group, lo, hi, term, ..] => Some(Record::Wish {
+            seats: u16::from_le_bytes([*lo, *hi]),
+        },
+        [b'T', lo, hi, flag, name @ ..] => Record::Trainee {
+            lot: u16::from_le_bytes([*lo, *hi]),
+            flag: *flag,
+            name: *name.first_chunk()?,
+        },
+        [b'W', group, lo, hi, term, ..] => Record::Wish {
             group: *group,
-            points: *lo as u16 + 256 * *hi as u16,
+            points: u16::from_le_bytes([*lo, *hi]),
             term: *term,
-        }),
-        _ => None,
-    }
-}
-
-fn bar_of(rest: &[u8]) -> Option<Record>
-    ensures { Leads Kind.Bar rest.now result }
-{
-    match rest {
-        [b'B', dredger, ..] => Some(Record::Bar { dredger: *dredger }),
-        _ => None,
-    }
-}
-
-fn end_of(rest: &[u8]) -> Option<Record>
-    ensures { Leads Kind.End rest.now result }
-{
-    match rest {
-        [b'E', lo, hi, ..] => Some(Record::End {
-            wishes: *lo as u16 + 256 * *hi as u16,
-        }),
-        _ => None,
-    }
-}
-
-// The record of this kind that begins `rest`, where it is whole.
-fn record_of(next: Kind, rest: &[u8]) -> Option<Record>
-    ensures { Leads next rest.now result }
-{
-    match next {
-        Kind::Group => group_of(rest),
-        Kind::Seat => seat_of(rest),
-        Kind::Reserve => reserve_of(rest),
-        Kind::Trainee => trainee_of(rest),
-        Kind::Wish => wish_of(rest),
-        Kind::Bar => bar_of(rest),
-        Kind::End => end_of(rest),
-    }
+        },
+        [b'B', dredger, ..] => Record::Bar { dredger: *dredger },
+        [b'E', lo, hi, ..] => Record::End {
+            wishes: u16::from_le_bytes([*lo, *hi]),
+        },
+        _ => return None,
+    };
+    Some(record)
 }
 
 // The record that begins `rest`, which stands at `place`.
 pub fn front_of(rest: &[u8], place: usize) -> Result<Record, ByteFault>
-    ensures { MatchResult result (λ x. Fronts rest.now x) (λ f. ByteNo rest.now place f) }
+    ensures { MatchResult result (Fronts rest.now) (ByteNo rest.now place) }
 {
-    let next = kind_of(rest, place)?;
-    record_of(next, rest).ok_or(ByteFault::Short { place })
+    kind_of(rest, place)?;
+    record_of(rest).ok_or(ByteFault::Short { place })
 }

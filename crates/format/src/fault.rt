@@ -1,6 +1,8 @@
 // A fault of the byte layer, and what any fault is told by: number, place and layer.
-ghost use Rattle.format.specs.Refusals.{by_bytes, byte_refusal};
-ghost use Rattle.std.specs.Prelude.{◌≡◌};
+ghost use Rattle.std.specs.Prelude.{◌≡◌, Some};
+ghost use Rattle.format.specs.Refusals.{byte_refusal, layer_name, refusal_by};
+
+use std::fmt;
 
 #[derive(Clone, Copy, PartialEq, Eq, Debug)]
 pub enum ByteFault {
@@ -23,25 +25,39 @@ pub struct Refusal {
     pub layer: Layer,
 }
 
-// A refusal by this layer.
-fn at(number: u8, place: usize) -> Refusal
-    ensures { result ≡ by_bytes number place }
-{
-    Refusal {
-        number,
-        place,
-        layer: Layer::Bytes,
+impl Layer {
+    // A refusal by this layer.
+    pub fn refusal(self, number: u8, place: usize) -> Refusal
+        ensures { result ≡ refusal_by self number place }
+    {
+        Refusal {
+            number,
+            place,
+            layer: self,
+        }
     }
 }
 
-impl ByteFault {
-    pub fn refusal(&self) -> Refusal
-        ensures { result ≡ byte_refusal self.now }
-    {
-        match self {
-            ByteFault::NoByte { place } => at(3, *place),
-            ByteFault::NoKind { place } => at(4, *place),
-            ByteFault::Short { place } => at(6, *place),
+impl fmt::Display for Layer {
+    ghost output = { λ layer. Some (layer_name layer) };
+
+    fn fmt<W: fmt::Write>(&self, f: &mut fmt::Formatter<W>) -> fmt::Result {
+        f.write_str(match self {
+            Layer::Bytes => "bytes",
+            Layer::Records => "records",
+            Layer::Deck => "deck",
+        })
+    }
+}
+
+impl From<ByteFault> for Refusal {
+    ghost from_gives = { λ fault refusal. refusal ≡ byte_refusal fault };
+
+    fn from(fault: ByteFault) -> Refusal {
+        match fault {
+            ByteFault::NoByte { place } => Layer::Bytes.refusal(3, place),
+            ByteFault::NoKind { place } => Layer::Bytes.refusal(4, place),
+            ByteFault::Short { place } => Layer::Bytes.refusal(6, place),
         }
     }
 }

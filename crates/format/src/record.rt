@@ -2,7 +2,7 @@
 ghost use Rattle.format.specs.Layout.{kind as kind_of, size as size_of};
 ghost use Rattle.std.specs.Prelude.{◌≡◌};
 
-#[derive(Clone, Copy)]
+#[derive(Clone, Copy, PartialEq, Eq, Debug)]
 pub enum Kind {
     Group,
     Seat,
@@ -14,7 +14,7 @@ pub enum Kind {
 }
 
 // The fields as the bytes give them; nothing is judged yet.
-#[derive(Clone, Copy)]
+#[derive(Clone, Copy, PartialEq, Eq, Debug)]
 pub enum Record {
     Group {
         parent: u8,

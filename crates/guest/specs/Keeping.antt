@@ -7,8 +7,8 @@ use Rattle.matching.specs.Choices.{Lawful}
 use Rattle.matching.proofs.Sets.{same_bool, outside}
 use Rattle.guest.specs.Thresholds.{enough, keeps}
 
-pub lawful : (least : ℕ) (cs : List Contract) (n : ℕ) → Lawful n (keeps least cs)
-lawful least cs n = record {
+pub lawful : (least : ℕ) (cs : List Contract) {n : ℕ} → Lawful n (keeps least cs)
+lawful least cs = record {
   part = λ X w k h. (and_parts (X k) (enough least cs k) h).0;
   substitutable = λ X Y w p k x f.
       outside (keeps least cs Y) k (λ y. both_ways (keeps least cs X k) f (and_from (X k) (enough least cs k) x (and_parts (Y k) (enough least cs k) y).1));

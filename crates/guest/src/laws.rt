@@ -5,7 +5,7 @@ ghost use Rattle.guest.specs.Shortlists.{Again, Joined, Shortlisted};
 ghost use Rattle.std.specs.Prelude.{length};
 
 use board::board::Board;
-use board::marks::put_in;
+use board::marks::{fit, put_in};
 use board::unfit::Unfit;
 use deck::deck::Deck;
 
@@ -45,10 +45,8 @@ pub fn choose_shortlists<B: Board>(
     ensures { Shortlisted (B.Board.kept b.now (data_of deck.now)) (length (data_of deck.now).contracts)
         first.old second.old first.new second.new result }
 {
-    let n = deck.contracts().len();
-    if first.len() != n || second.len() != n {
-        return Err(Unfit::Marks);
-    }
+    fit(deck, first)?;
+    fit(deck, second)?;
     b.choose(deck, first)?;
     b.choose(deck, second)?;
     choose_joined(b, deck, first, second)

@@ -1,13 +1,12 @@
 // A board that keeps every contract with points enough.
-ghost use Rattle.board.specs.Marks.{marked, member};
-ghost use Rattle.guest.specs.Thresholds.{keeps};
-ghost use Rattle.std.specs.Prelude.{◌≡◌, length};
 ghost use Rattle.guest.specs.Keeping.{lawful};
+ghost use Rattle.guest.specs.Thresholds.{keeps};
 ghost use Rattle.std.proofs.Common.{rules};
+ghost use Rattle.std.specs.Prelude.{◌≡◌, nat_le};
 
 use board::board::Board;
 use board::explain::Explain;
-use board::marks::is_listed;
+use board::marks::{fit, is_listed, keep_only};
 use board::unfit::Unfit;
 use deck::deck::Deck;
 use rules::table::Contract;
@@ -17,34 +16,28 @@ pub struct Threshold {
     pub least: u16,
 }
 
-// Turns the marks of a list into those of its contracts with at least so many points.
-fn keep(least: u16, contracts: &[Contract], marks: &mut [u8])
-    requires { length marks.old ≡ length contracts.now }
-    ensures { marks.new ≡ marked (length contracts.now) (keeps least contracts.now (member marks.old)) }
-{
-    for k in 0..marks.len() {
-        marks[k] = if marks[k] != 0 && contracts[k].points >= least {
-            1
-        } else {
-            0
-        };
+impl Threshold {
+    // Has the contract points enough?
+    fn takes(&self, contract: &Contract) -> bool
+        ensures { result ≡ nat_le self.now.least contract.now.points }
+    {
+        contract.points >= self.least
     }
 }
 
 impl Board for Threshold {
     ghost kept = { λ s t. keeps s.least t.contracts };
 
-    ghost part = { λ b t o. (lawful b.least t.contracts (length t.contracts)).part };
+    ghost part = { λ b t o. (lawful b.least t.contracts).part };
 
-    ghost substitutable = { λ b t o. (lawful b.least t.contracts (length t.contracts)).substitutable };
+    ghost substitutable = { λ b t o. (lawful b.least t.contracts).substitutable };
 
-    ghost irrelevant = { λ b t o. (lawful b.least t.contracts (length t.contracts)).irrelevant };
+    ghost irrelevant = { λ b t o. (lawful b.least t.contracts).irrelevant };
 
     fn choose(&self, deck: &Deck, marks: &mut [u8]) -> Result<(), Unfit> {
-        if marks.len() != deck.contracts().len() {
-            return Err(Unfit::Marks);
-        }
-        keep(self.least, deck.contracts(), marks);
+        fit(deck, marks)?;
+        let contracts = deck.contracts();
+        keep_only(marks, |k| self.takes(&contracts[k]));
         Ok(())
     }
 }
@@ -58,7 +51,7 @@ impl Explain for Threshold {
         if !is_listed(deck, marks, k)? {
             return Ok((1, 0));
         }
-        if deck.contracts()[k as usize].points >= self.least {
+        if self.takes(&deck.contracts()[k as usize]) {
             return Ok((0, 0));
         }
         Ok((7, self.least))

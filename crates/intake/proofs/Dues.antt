@@ -1,5 +1,5 @@
 -- From the faults of the code to the refusals of the book.
-use Rattle.std.proofs.Common.{◌≡◌, ℕ, ◌<◌, ◌≤◌, true, List, length, subst, arith}
+use Rattle.std.proofs.Common.{rules, ◌≡◌, ℕ, ◌<◌, ◌≤◌, true, List, length, subst, arith}
 use Rattle.format.specs.declared.fault.ByteFault.TheVariants.{NoByte, NoKind, Short}
 use Rattle.format.specs.declared.fault.Refusal.{Refusal}
 use Rattle.format.specs.declared.record.Kind.{Kind}
@@ -90,7 +90,7 @@ first_no rs rest p (Bytes (NoKind q)) h = record {
 }
 first_no rs rest p (Misplaced q) h = record {
   earlier = before rs rest 5 (omega arith) (λ _. h.0.1.0) (λ _. (h.0.0, h.0.1)) (never 5 5 (omega arith)) (never 6 5 (omega arith)) (never 7 5 (omega arith)) (never 8 5 (omega arith));
-  no = λ y. let a = y h.0.0 h.0.1 in let b = h.0.2 in let z : ◌≡◌ {A = ℕ} 0 1 = cc in omega arith;
+  no = λ y. let a = y h.0.0 h.0.1 in let b = h.0.2 in search rules;
 }
 first_no rs rest p (Bytes (Short q)) h = record {
   earlier = before rs rest 6 (omega arith) (λ _. h.0.0.1.0) (λ _. (h.0.0.0, h.0.0.1)) (λ _. h.1) (never 6 6 (omega arith)) (never 7 6 (omega arith)) (never 8 6 (omega arith));

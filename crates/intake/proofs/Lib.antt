@@ -1,5 +1,5 @@
 pub mod Rows
-pub mod Tables
+pub mod Fillings
 pub mod States
 pub mod Dues
 pub mod Turns

@@ -1,5 +1,5 @@
 -- What holds of the entries of every row that passes.
-use Rattle.std.proofs.Common.{◌≡◌, ℕ, ◌<◌, ◌≤◌, true, List, [], ◌∷◌, ◌++◌, length, refl, arith, length-append}
+use Rattle.std.proofs.Common.{rules, ◌≡◌, ℕ, ◌<◌, ◌≤◌, true, List, [], ◌∷◌, ◌++◌, length, refl, arith, length-append}
 use Rattle.format.specs.declared.record.Kind.TheVariants as K
 use Rattle.format.specs.declared.record.Record.{Record}
 use Rattle.format.specs.declared.record.Record.TheVariants as R
@@ -38,29 +38,29 @@ few (rs ▸ r) p = few_more (listed rs) _ r (few rs p.0) p.1.ruled.room
 
 -- a wish or a bar stands in the trainees' part
 wish_part : (s : Section) → may s K.Wish ≡ true → s ≡ Trainees
-wish_part Groups e = let z : ◌≡◌ {A = ℕ} 0 1 = cc in absurd (omega arith)
-wish_part Seats e = let z : ◌≡◌ {A = ℕ} 0 1 = cc in absurd (omega arith)
-wish_part Reserves e = let z : ◌≡◌ {A = ℕ} 0 1 = cc in absurd (omega arith)
+wish_part Groups e = search rules
+wish_part Seats e = search rules
+wish_part Reserves e = search rules
 wish_part Trainees e = refl
-wish_part Closed e = let z : ◌≡◌ {A = ℕ} 0 1 = cc in absurd (omega arith)
+wish_part Closed e = search rules
 
 bar_part : (s : Section) → may s K.Bar ≡ true → s ≡ Trainees
-bar_part Groups e = let z : ◌≡◌ {A = ℕ} 0 1 = cc in absurd (omega arith)
-bar_part Seats e = let z : ◌≡◌ {A = ℕ} 0 1 = cc in absurd (omega arith)
-bar_part Reserves e = let z : ◌≡◌ {A = ℕ} 0 1 = cc in absurd (omega arith)
+bar_part Groups e = search rules
+bar_part Seats e = search rules
+bar_part Reserves e = search rules
 bar_part Trainees e = refl
-bar_part Closed e = let z : ◌≡◌ {A = ℕ} 0 1 = cc in absurd (omega arith)
+bar_part Closed e = search rules
 
 -- in the trainees' part there is a trainee
 pub led : (rs : Row) → Passes rs → Led (section_of rs) (listed rs)
-led none p e = let z : ◌≡◌ {A = ℕ} 0 1 = cc in absurd (omega arith)
-led (rs ▸ R.Group q c n) p e = let z : ◌≡◌ {A = ℕ} 0 1 = cc in absurd (omega arith)
-led (rs ▸ R.Seat d r) p e = let z : ◌≡◌ {A = ℕ} 0 1 = cc in absurd (omega arith)
-led (rs ▸ R.Reserve d s) p e = let z : ◌≡◌ {A = ℕ} 0 1 = cc in absurd (omega arith)
+led none p e = search rules
+led (rs ▸ R.Group q c n) p e = search rules
+led (rs ▸ R.Seat d r) p e = search rules
+led (rs ▸ R.Reserve d s) p e = search rules
 led (rs ▸ R.Trainee l f n) p e = simp length-append (omega arith)
 led (rs ▸ R.Wish g s m) p e = led rs p.0 (wish_part (section_of rs) p.1.stands)
 led (rs ▸ R.Bar d) p e = led rs p.0 (bar_part (section_of rs) p.1.stands)
-led (rs ▸ R.End n) p e = let z : ◌≡◌ {A = ℕ} 0 1 = cc in absurd (omega arith)
+led (rs ▸ R.End n) p e = search rules
 
 pub belongs : (s : Section) (t : Content) (r : Record) → may s (kind r) ≡ true → Led s t → Belongs t r
 belongs s t (R.Group q c n) e h = tt

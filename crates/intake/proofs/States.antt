@@ -1,7 +1,9 @@
 -- The state of the reading loop after the records of a row.
 use Rattle.std.proofs.Common.{◌≡◌, ℕ, ◌≤◌, List, ◌++◌, length, drop, sym, ap, ◌∙◌, append_assoc, append-nil, arith, length-append, drop_of_length-le}
 use Rattle.format.specs.declared.record.Record.{Record}
-use Rattle.format.specs.Layout.{encode, Took}
+use Rattle.format.specs.declared.reader.Reader.{Reader}
+use Rattle.format.specs.Layout.{encode}
+use Rattle.format.specs.Reader.{Took}
 use Rattle.format.proofs.Unique.{encode_size}
 use Rattle.rules.specs.declared.section.Section.{Section}
 use Rattle.rules.specs.declared.section.Section.TheVariants.{Closed}
@@ -17,22 +19,25 @@ pub record Read (all : List ℕ) (place : ℕ) (rs : Row) : Type 0 where
   pub at : place ≡ length (encodes rs)
   pub passes : Passes rs
 
-pub record State (all rb : List ℕ) (place : ℕ) (section : Section) (had : Counts) (t : Content) (rs : Row) : Type 0 where
-  pub same : rb ≡ all
-  pub read : Read all place rs
+pub record State (all : List ℕ) (reader : Reader) (section : Section) (had : Counts) (t : Content) (rs : Row) : Type 0 where
+  pub same : reader.bytes.now ≡ all
+  pub read : Read all reader.place rs
   pub section_is : section ≡ section_of rs
   pub is_open : section_of rs ≡ Closed → ⊥
   pub holds : Holds (listed rs) had t
   pub roomy : Roomy t
 
 -- one record more was read
-pub read_more : {all : List ℕ} {p q : ℕ} {rs : Row} (r : Record) → Read all p rs → Took all p q r → Allowed (section_of rs) (listed rs) r → Read all q (rs ▸ r)
-read_more {all} {p} {q} {rs} r h t a =
+pub read_more : {all : List ℕ} {old new : Reader} {rs : Row} (r : Record) → old.bytes.now ≡ all → Read all old.place rs → Took old new r → Allowed (section_of rs) (listed rs) r →
+    Read all new.place (rs ▸ r)
+read_more {all} {old} {new} {rs} r same h t a =
     let z = encode_size r t.starts.formed in
     let m = t.moved in
     let n = h.at in
+    let e : drop old.place all ≡ encode r ++ drop new.place all =
+    ap (drop old.place) (sym same) ∙ t.starts.spelled ∙ ap (λ (x : List ℕ). encode r ++ drop new.place x) (t.same ∙ same) in
     record {
-      spelled = h.spelled ∙ ap (λ (x : List ℕ). encodes rs ++ x) t.starts.spelled ∙ sym (append_assoc (encodes rs) (encode r) (drop q all));
+      spelled = h.spelled ∙ ap (λ (x : List ℕ). encodes rs ++ x) e ∙ sym (append_assoc (encodes rs) (encode r) (drop new.place all));
       at = simp length-append (omega arith);
       passes = (h.passes, a);
     }

@@ -1,5 +1,5 @@
 -- A deck's bytes have one reading, and one verdict.
-use Rattle.std.proofs.Common.{◌≡◌, ℕ, ◌+◌, ◌*◌, ◌<◌, ◌≤◌, true, false, cond, eqb, ◌⊎◌, List, [], ◌∷◌, ◌++◌, length, sym, refl, ap, ◌∙◌, subst, inl, inr, append_assoc, append-nil, arith, length-append}
+use Rattle.std.proofs.Common.{rules, ◌≡◌, ℕ, ◌+◌, ◌*◌, ◌<◌, ◌≤◌, true, false, cond, eqb, ◌⊎◌, List, [], ◌∷◌, ◌++◌, length, sym, refl, ap, ◌∙◌, subst, inl, inr, append_assoc, append-nil, arith, length-append}
 use Rattle.std.proofs.lemmas.Bool.{cases_order}
 use Rattle.format.specs.declared.fault.Refusal.{Refusal}
 use Rattle.format.specs.declared.record.Kind.{Kind}
@@ -115,7 +115,7 @@ same_stop all A B x y a b s u =
     ]
 
 clash : true ≡ false → ⊥
-clash e = let z : ◌≡◌ {A = ℕ} 0 1 = cc in omega arith
+clash e = search rules
 
 not_closed : (s : Section) (k : Kind) → may s k ≡ true → s ≡ Closed → ⊥
 not_closed s k m e = clash (sym m ∙ ap (λ (x : Section). may x k) e)

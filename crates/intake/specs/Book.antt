@@ -107,11 +107,6 @@ pub record Verdict (all : List ℕ) (r : Result Counts DeckFault) : Type 0 where
   pub not_both : (rs : Row) (x : Refusal) → Spells all rs → Due all x → ⊥
   pub one_refusal : (x y : Refusal) → Due all x → Due all y → x ≡ y
 
--- the same as the code has it, by its fault
-pub record Taken (all : List ℕ) (t t' : Content) (r : Result Counts DeckFault) : Type 0 where
-  pub small : (Roomy t → ⊥) → (r ≡ Err SmallTable) × (t' ≡ t)
-  pub large : Roomy t → Answers all t t' r
-
 -- what intake answers, and the tables t' that it leaves where they were t
 pub record Judged (all : List ℕ) (t t' : Content) (r : Result Counts DeckFault) : Type 0 where
   pub small : (Roomy t → ⊥) → Refused r (by_deck 1 0) × (t' ≡ t)

@@ -6,7 +6,7 @@ use Rattle.rules.specs.declared.table.Reservation.{Reservation}
 use Rattle.rules.specs.declared.table.Trainee.{Trainee}
 use Rattle.rules.specs.declared.table.Contract.{Contract}
 use Rattle.rules.specs.declared.table.Barring.{Barring}
-use Rattle.rules.specs.Contents.{Content, zero_seat, zero_reservation, zero_trainee, zero_contract, zero_barring}
+use Rattle.rules.specs.Contents.{Content, zero_group, zero_seat, zero_reservation, zero_trainee, zero_contract, zero_barring}
 use Rattle.intake.specs.declared.counts.Counts.{Counts}
 use Rattle.intake.specs.declared.entry.Entry.{Entry}
 use Rattle.intake.specs.declared.entry.Entry.TheVariants as E
@@ -15,14 +15,10 @@ use Rattle.intake.specs.declared.entry.Entry.TheVariants as E
 abbrev pub tables : List Group → List Seat → List Reservation → List Trainee → List Contract → List Barring → Content
 tables gs ss rs ts cs bs = record { groups = gs; seats = ss; reserves = rs; trainees = ts; contracts = cs; bars = bs }
 
--- a blank entry is all zero, a blank group without parent
-abbrev pub no_group : Group
-no_group = record { parent = 255; capacity = 0; name = 0; dredger = 0 }
-
 -- tables of these lengths, all blank
 abbrev pub blanks : Content → Content
 blanks t = record {
-  groups = replicate (length t.groups) no_group;
+  groups = replicate (length t.groups) zero_group;
   seats = replicate (length t.seats) zero_seat;
   reserves = replicate (length t.reserves) zero_reservation;
   trainees = replicate (length t.trainees) zero_trainee;
@@ -39,6 +35,35 @@ pub record Roomy (t : Content) : Type 0 where
   pub contracts : 2048 ≤ length t.contracts
   pub bars : 128 ≤ length t.bars
 
+-- each table has just its most entries
+pub record Full (t : Content) : Type 0 where
+  pub groups : length t.groups ≡ 64
+  pub seats : length t.seats ≡ 256
+  pub reserves : length t.reserves ≡ 64
+  pub trainees : length t.trainees ≡ 256
+  pub contracts : length t.contracts ≡ 2048
+  pub bars : length t.bars ≡ 128
+
+-- such tables, all blank
+abbrev pub blank_book : Content
+blank_book = record {
+  groups = replicate 64 zero_group;
+  seats = replicate 256 zero_seat;
+  reserves = replicate 64 zero_reservation;
+  trainees = replicate 256 zero_trainee;
+  contracts = replicate 2048 zero_contract;
+  bars = replicate 128 zero_barring;
+}
+
+-- each table of u is as long as that of t
+pub record SameLengths (t u : Content) : Type 0 where
+  pub groups : length u.groups ≡ length t.groups
+  pub seats : length u.seats ≡ length t.seats
+  pub reserves : length u.reserves ≡ length t.reserves
+  pub trainees : length u.trainees ≡ length t.trainees
+  pub contracts : length u.contracts ≡ length t.contracts
+  pub bars : length u.bars ≡ length t.bars
+
 -- these entries, and blanks up to n places
 abbrev pub padded : {A : Type 0} → A → ℕ → List A → List A
 padded d n xs = xs ++ replicate (n - length xs) d
@@ -50,7 +75,7 @@ pub record Held {A : Type 0} (blank : A) (xs : List A) (n : ℕ) (table : List A
 
 -- the six tables t hold the entries x, and c counts them
 pub record Holds (x : Content) (c : Counts) (t : Content) : Type 0 where
-  pub groups : Held no_group x.groups c.groups t.groups
+  pub groups : Held zero_group x.groups c.groups t.groups
   pub seats : Held zero_seat x.seats c.seats t.seats
   pub reserves : Held zero_reservation x.reserves c.reserves t.reserves
   pub trainees : Held zero_trainee x.trainees c.trainees t.trainees

@@ -2,6 +2,7 @@
 use Rattle.std.specs.Prelude.{ℕ}
 use Rattle.format.specs.declared.fault.Layer.TheVariants as L
 use Rattle.format.specs.declared.fault.Refusal.{Refusal}
+use Rattle.format.specs.Refusals.{refusal_by}
 use Rattle.rules.specs.declared.fault.RecordFault.{RecordFault}
 use Rattle.rules.specs.Refusals.{record_refusal}
 use Rattle.intake.specs.declared.fault.DeckFault.{DeckFault}
@@ -9,7 +10,7 @@ use Rattle.intake.specs.declared.fault.DeckFault.TheVariants.{Records, SmallTabl
 
 -- a refusal by this layer, with its number and place
 abbrev pub by_deck : ℕ → ℕ → Refusal
-by_deck n p = record { number = n; place = p; layer = L.Deck }
+by_deck = refusal_by L.Deck
 
 abbrev pub deck_fault_of : RecordFault → DeckFault
 deck_fault_of f = Records f

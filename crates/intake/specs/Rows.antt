@@ -1,5 +1,6 @@
 -- A deck as a row of records, each judged by those before it, and the entries that they fill.
-use Rattle.std.specs.Prelude.{◌≡◌, ℕ, ◌+◌, ◌<◌, cond, List, [], ◌∷◌, ◌++◌, length, ◌==◌}
+use Rattle.std.specs.Prelude.{◌≡◌, ℕ, ◌+◌, ◌<◌, cond, List, [], ◌∷◌, ◌++◌, length, Some, None, Option, if◌then◌else◌, ◌==◌}
+use Rattle.format.specs.declared.reader.Reader.{Reader}
 use Rattle.format.specs.declared.record.Record.{Record}
 use Rattle.format.specs.declared.record.Record.TheVariants as R
 use Rattle.format.specs.Layout.{kind, encode}
@@ -7,16 +8,20 @@ use Rattle.rules.specs.declared.section.Section.{Section}
 use Rattle.rules.specs.declared.section.Section.TheVariants.{Groups, Trainees}
 use Rattle.rules.specs.declared.table.Group.{Group}
 use Rattle.rules.specs.declared.table.Contract.{Contract}
-use Rattle.rules.specs.Contents.{Content, nothing, group_at, trainee_at}
+use Rattle.rules.specs.Contents.{Content, nothing, rule_of, group_at, trainee_at}
 use Rattle.rules.specs.Order.{after}
 use Rattle.rules.specs.Rules.{Admitted, Allowed, current}
 use Rattle.intake.specs.declared.entry.Entry.{Entry}
 use Rattle.intake.specs.declared.entry.Entry.TheVariants as E
 
+-- the parent that a byte gives
+abbrev pub parent_of : ℕ → Option ℕ
+parent_of p = if p == 255 then None else Some p
+
 -- a group without parent is its own dredger, any other has its parent's; its name begins four bytes after its kind byte
 abbrev pub entry_of_group : Content → ℕ → ℕ → ℕ → Group
 entry_of_group t place p c = record {
-  parent = p;
+  parent = parent_of p;
   capacity = c;
   name = place + 4;
   dredger = cond (p == 255) (length t.groups) (group_at t.groups p).dredger;
@@ -37,7 +42,7 @@ entry_of_wish t g p m = record {
 -- the entry of a record at a place, after those with these entries
 abbrev pub entry_of : Content → ℕ → Record → Entry
 entry_of t place (R.Group p c n) = E.Group (entry_of_group t place p c)
-entry_of t place (R.Seat d r) = E.Seat (record { dredger = d; rule = r })
+entry_of t place (R.Seat d r) = E.Seat (record { dredger = d; rule = rule_of r })
 entry_of t place (R.Reserve d s) = E.Reserve (record { dredger = d; seats = s })
 entry_of t place (R.Trainee l f n) = E.Trainee (record { lot = l; flag = (f == 1); name = place + 4 })
 entry_of t place (R.Wish g p m) = E.Contract (entry_of_wish t g p m)
@@ -103,6 +108,6 @@ Belongs t (R.End n) = Unit {0}
 abbrev pub Led : Section → Content → Type 0
 Led s t = s ≡ Trainees → 0 < length t.trainees
 
--- the entry of the record that was taken off all at place p and is allowed; q is the next one's place
-abbrev pub Entered : Section → Content → List ℕ → ℕ → ℕ → Entry × Section → Type 0
-Entered s t all p q x = (r : Record) × Admitted s t all p q (r, x.1) × (x.0 ≡ entry_of t p r)
+-- the entry of the record that was taken off a reader and is allowed, and the section after it
+abbrev pub Entered : Section → Content → Reader → Reader → Entry × Section → Type 0
+Entered s t old new x = (r : Record) × Admitted s t old new (r, x.1) × (x.0 ≡ entry_of t old.place r)

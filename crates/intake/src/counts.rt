@@ -5,7 +5,7 @@ ghost use Rattle.std.specs.Prelude.{◌≡◌, take};
 
 use rules::table::Tables;
 
-#[derive(Clone, Copy, PartialEq, Eq, Debug)]
+#[derive(Clone, Copy, PartialEq, Eq, Debug, Default)]
 pub struct Counts {
     pub groups: usize,
     pub seats: usize,
@@ -15,23 +15,10 @@ pub struct Counts {
     pub bars: usize,
 }
 
-pub const NO_COUNTS: Counts = Counts {
-    groups: 0,
-    seats: 0,
-    reserves: 0,
-    trainees: 0,
-    wishes: 0,
-    bars: 0,
-};
-
 fn front<T>(entries: &[T], n: usize) -> &[T]
     ensures { result.now ≡ take n entries.now }
 {
-    if n <= entries.len() {
-        &entries[0..n]
-    } else {
-        entries
-    }
+    entries.get(..n).unwrap_or(entries)
 }
 
 impl Counts {

@@ -1,12 +1,12 @@
 // The entry that a record fills.
-ghost use Rattle.std.specs.Prelude.{◌≡◌, ℕ, ◌+◌, ◌<◌, ◌≤◌, length, ◌≢◌};
+ghost use Rattle.std.specs.Prelude.{◌≡◌, ◌+◌, ◌<◌, ◌≤◌, length, ◌≢◌};
 ghost use Rattle.format.specs.Layout.{kind};
 ghost use Rattle.intake.specs.Rows.{Belongs, entry_of, entry_of_group, entry_of_wish};
 ghost use Rattle.rules.specs.Contents.{content_of};
 ghost use Rattle.rules.specs.Rules.{InRange, Room};
 
 use format::record::Record;
-use rules::table::{Barring, Contract, Group, NO_PARENT, Reservation, Seat, Tables, Trainee};
+use rules::table::{Barring, Contract, Group, NO_PARENT, Reservation, Rule, Seat, Tables, Trainee};
 
 // An E fills no table; it gives the number of W records.
 #[derive(Clone, Copy)]
@@ -27,20 +27,16 @@ fn group_entry(past: Tables, place: usize, parent: u8, capacity: u16) -> Group
     ensures { result ≡ entry_of_group (content_of past.entry) place parent capacity }
 {
     let name = place + 4;
-    if parent == NO_PARENT {
-        Group {
-            parent,
-            capacity,
-            name,
-            dredger: past.groups.len() as u8,
-        }
-    } else {
-        Group {
-            parent,
-            capacity,
-            name,
-            dredger: past.groups[parent as usize].dredger,
-        }
+    let parent = (parent != NO_PARENT).then_some(parent);
+    let dredger = match parent {
+        None => past.groups.len() as u8,
+        Some(parent) => past.groups[parent as usize].dredger,
+    };
+    Group {
+        parent,
+        capacity,
+        name,
+        dredger,
     }
 }
 
@@ -79,7 +75,10 @@ pub(crate) fn entry_of(rec: Record, place: usize, past: Tables) -> Entry
             capacity,
             ..
         } => Entry::Group(group_entry(past, place, parent, capacity)),
-        Record::Seat { dredger, rule } => Entry::Seat(Seat { dredger, rule }),
+        Record::Seat { dredger, rule } => Entry::Seat(Seat {
+            dredger,
+            rule: Rule::try_from(rule).unwrap(),
+        }),
         Record::Reserve { dredger, seats } => Entry::Reserve(Reservation { dredger, seats }),
         Record::Trainee { lot, flag, .. } => Entry::Trainee(Trainee {
             lot,

@@ -1,5 +1,5 @@
 // A fault of the deck layer, with one of the record layer whole.
-ghost use Rattle.intake.specs.Refusals.{by_deck, deck_fault_of, refusal as deck_refusal};
+ghost use Rattle.intake.specs.Refusals.{deck_fault_of, refusal as deck_refusal};
 ghost use Rattle.std.specs.Prelude.{◌≡◌};
 
 use format::fault::{Layer, Refusal};
@@ -16,35 +16,24 @@ pub enum DeckFault {
 }
 
 impl From<RecordFault> for DeckFault {
-    ghost from_gives = { λ x y. y ≡ deck_fault_of x };
+    ghost from_gives = { λ record_fault fault. fault ≡ deck_fault_of record_fault };
 
-    fn from(f: RecordFault) -> DeckFault {
-        DeckFault::Records(f)
+    fn from(fault: RecordFault) -> DeckFault {
+        DeckFault::Records(fault)
     }
 }
 
-// A refusal by this layer.
-fn at(number: u8, place: usize) -> Refusal
-    ensures { result ≡ by_deck number place }
-{
-    Refusal {
-        number,
-        place,
-        layer: Layer::Deck,
-    }
-}
+impl From<DeckFault> for Refusal {
+    ghost from_gives = { λ fault refusal. refusal ≡ deck_refusal fault };
 
-impl DeckFault {
-    pub fn refusal(&self) -> Refusal
-        ensures { result ≡ deck_refusal self.now }
-    {
-        match self {
-            DeckFault::Records(f) => f.refusal(),
-            DeckFault::SmallTable => at(1, 0),
-            DeckFault::TooLong => at(2, 0),
-            DeckFault::WrongCount { place } => at(10, *place),
-            DeckFault::Trailing { place } => at(11, *place),
-            DeckFault::OtherTables => at(12, 0),
+    fn from(fault: DeckFault) -> Refusal {
+        match fault {
+            DeckFault::Records(fault) => fault.into(),
+            DeckFault::SmallTable => Layer::Deck.refusal(1, 0),
+            DeckFault::TooLong => Layer::Deck.refusal(2, 0),
+            DeckFault::WrongCount { place } => Layer::Deck.refusal(10, place),
+            DeckFault::Trailing { place } => Layer::Deck.refusal(11, place),
+            DeckFault::OtherTables => Layer::Deck.refusal(12, 0),
         }
     }
 }

@@ -1,21 +1,23 @@
 // Reading a deck's records in turn into blank tables.
-ghost use Rattle.std.specs.Prelude.{◌≡◌, ℕ, ◌+◌, ◌<◌, ◌≤◌, length, drop, MatchResult};
+ghost use Rattle.std.specs.Prelude.{◌≡◌, ◌<◌, ◌≤◌, length, MatchResult};
+ghost use Rattle.format.specs.Reader.{SameBytes, rest_of};
 ghost use Rattle.intake.specs.Book.{Due, EndNo, Fills};
-ghost use Rattle.intake.specs.Fillings.{Roomy, blanks, tables};
+ghost use Rattle.intake.specs.Fillings.{Roomy, SameLengths, blanks};
+ghost use Rattle.intake.specs.Lent.{SameTables, content_of_lent};
 ghost use Rattle.intake.specs.Refusals.{refusal};
 ghost use Rattle.intake.specs.Rows.{Entered, Led};
 ghost use Rattle.rules.specs.Contents.{content_of};
 ghost use Rattle.rules.specs.Rules.{RecordNo};
 
-use crate::counts::{Counts, NO_COUNTS};
+use crate::counts::Counts;
 use crate::entry::{Entry, entry_of};
 use crate::fault::DeckFault;
-use crate::store::store;
+use crate::tables::TablesMut;
 use format::reader::Reader;
 use rules::admit::admit;
 use rules::fault::RecordFault;
 use rules::section::Section;
-use rules::table::{Barring, Contract, Group, Reservation, Seat, Tables, Trainee};
+use rules::table::Tables;
 
 // The most bytes that a deck has: the most records of each kind, and E.
 pub const LONGEST: usize = 15363;
@@ -29,9 +31,9 @@ fn next_entry(
     requires place { reader.old.place ≤ 15363 }
     requires few { length past.trainees.now ≤ 256 }
     requires led { Led section (content_of past) }
-    ensures same { reader.new.bytes.now ≡ reader.old.bytes.now }
-    ensures cases { MatchResult result (λ x. Entered section (content_of past.entry) reader.old.bytes.now reader.old.place reader.new.place x)
-        (λ f. RecordNo section (content_of past.entry) (drop reader.old.place reader.old.bytes.now) reader.old.place f) }
+    ensures same { SameBytes reader.old reader.new }
+    ensures cases { MatchResult result (Entered section (content_of past.entry) reader.old reader.new)
+        (RecordNo section (content_of past.entry) (rest_of reader.old) reader.old.place) }
 {
     let place = reader.place();
     let (rec, next) = admit(reader, section, past)?;
@@ -59,45 +61,27 @@ fn close(
 }
 
 // Fills blank tables that are large enough.
-pub fn fill(
-    bytes: &[u8],
-    groups: &mut [Group],
-    seats: &mut [Seat],
-    reserves: &mut [Reservation],
-    trainees: &mut [Trainee],
-    contracts: &mut [Contract],
-    bars: &mut [Barring],
-) -> Result<Counts, DeckFault>
-    requires roomy { Roomy (tables groups.old seats.old reserves.old trainees.old contracts.old bars.old) }
-    requires blank { tables groups.old seats.old reserves.old trainees.old contracts.old bars.old
-        ≡ blanks (tables groups.old seats.old reserves.old trainees.old contracts.old bars.old) }
-    ensures { MatchResult result (λ c. Fills bytes.now c
-        (tables groups.new seats.new reserves.new trainees.new contracts.new bars.new))
-        (λ f. Due bytes.now (refusal f)) }
+pub(crate) fn fill(bytes: &[u8], tables: &mut TablesMut) -> Result<Counts, DeckFault>
+    requires roomy { Roomy (content_of_lent tables.old) }
+    requires blank { content_of_lent tables.old ≡ blanks (content_of_lent tables.old) }
+    ensures same { SameTables tables.old tables.new }
+    ensures lengths { SameLengths (content_of_lent tables.old) (content_of_lent tables.new) }
+    ensures cases { MatchResult result (λ c. Fills bytes.now c (content_of_lent tables.new)) (λ f. Due bytes.now (refusal f)) }
 {
     if bytes.len() > LONGEST {
         return Err(DeckFault::TooLong);
     }
     let mut reader = Reader::new(bytes);
     let mut section = Section::Groups;
-    let mut had = NO_COUNTS;
+    let mut had = Counts::default();
     loop {
         let place = reader.place();
-        let past = had.firsts(Tables {
-            groups,
-            seats,
-            reserves,
-            trainees,
-            contracts,
-            bars,
-        });
+        let past = tables.firsts(had);
         let (entry, next) = next_entry(&mut reader, section, past)?;
         if let Entry::End(count) = entry {
             return close(count, had, place, reader.place(), bytes.len());
         }
-        had = store(
-            entry, had, groups, seats, reserves, trainees, contracts, bars,
-        );
+        had = tables.store(entry, had);
         section = next;
     }
 }

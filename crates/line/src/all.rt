@@ -1,15 +1,17 @@
 // Whole lines at a time, for every kind of line.
+#![tactic(auto, using(crate::proofs::Ends::joined_more, crate::proofs::Ends::joined_all))]
+
 ghost use Rattle.std.specs.Prelude.{◌≡◌, ◌+◌, ◌≤◌, [], length, Decides};
 ghost use Rattle.line.specs.Calls.{AllJoined};
+ghost use Rattle.strip.specs.Rows.{holding};
 
 use crate::line::Line;
 use strip::row::Full;
 
 // Takes one after another until nobody waits, and answers how many it took.
 pub fn drain<L: Line>(line: &mut L) -> usize
-    ensures places { L.places line.new ≡ L.places line.old }
-    ensures empty { L.waiting line.new ≡ [] }
-    ensures all { result ≡ length (L.waiting line.old) }
+    ensures empty { L.waiting line.new ≡ holding (L.waiting line.old) [] }
+    ensures all { result ≡ length (L.waiting line.old).items }
 {
     let n = line.count();
     while let Some(_t) = line.take() {}
@@ -18,7 +20,7 @@ pub fn drain<L: Line>(line: &mut L) -> usize
 
 // Whether there are places for n more.
 fn has_room<L: Line>(line: &L, n: usize) -> bool
-    ensures { Decides result (n + length (L.waiting line.now) ≤ L.places line.now) }
+    ensures { Decides result (n + length (L.waiting line.now).items ≤ (L.waiting line.now).places) }
 {
     let places = line.places();
     let count = line.count();
@@ -27,8 +29,7 @@ fn has_room<L: Line>(line: &L, n: usize) -> bool
 
 // The trainees of a list join in its order, where there are places for all of them; else nobody does.
 pub fn join_all<L: Line>(line: &mut L, trainees: &[u16]) -> Result<(), Full>
-    ensures places { L.places line.new ≡ L.places line.old }
-    ensures joined { AllJoined L.joins (L.places line.old) (L.waiting line.old) trainees.now result (L.waiting line.new) }
+    ensures { AllJoined L.joins (L.waiting line.old) trainees.now result (L.waiting line.new) }
 {
     if !has_room(line, trainees.len()) {
         return Err(Full::NoPlace);

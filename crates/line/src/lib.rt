@@ -5,5 +5,5 @@ pub mod all;
 pub mod line;
 pub mod log;
 pub mod queue;
-mod row;
 pub mod stack;
+pub mod waiting;

@@ -1,13 +1,11 @@
 // The log: a strip of contracts that were turned down.
 ghost use Rattle.line.specs.Logs.{noted};
 ghost use Rattle.strip.specs.Calls.{Put};
-ghost use Rattle.strip.specs.Rows.{items, places};
-ghost use Rattle.std.specs.Prelude.{◌≡◌};
 
 use strip::row::{Full, Strip};
 
 // A contract that was turned down, and how many offers had been made by then.
-#[derive(Clone, Copy, PartialEq, Eq, Debug)]
+#[derive(Clone, Copy, PartialEq, Eq, Debug, Default)]
 pub struct TurnedDown {
     pub contract: u16,
     pub offers: u16,
@@ -15,8 +13,7 @@ pub struct TurnedDown {
 
 // One more entry at the new end of the log.
 pub fn note<'a>(log: &mut Strip<'a, TurnedDown>, contract: u16, offers: u16) -> Result<(), Full>
-    ensures places { places log.new ≡ places log.old }
-    ensures entries { Put (places log.old) (items log.old) (noted contract offers) result (items log.new) }
+    ensures { Put log.old (noted contract offers) result log.new }
 {
     log.put(TurnedDown { contract, offers })
 }

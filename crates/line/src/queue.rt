@@ -1,48 +1,19 @@
-// A line that takes the oldest, on a strip of trainee numbers.
-ghost use Rattle.line.specs.Calls.{at_end, the_oldest};
-ghost use Rattle.strip.specs.Rows.{items, places as places_of};
-ghost use Rattle.std.specs.Prelude.{◌≡◌};
+// A line that takes the oldest.
+#![tactic(auto, using(crate::proofs::Ends::takes_oldest))]
 
-use crate::line::Line;
-use crate::row::{oldest, put};
-use strip::row::{Full, Strip};
+ghost use Rattle.line.specs.Calls.{the_oldest};
 
-#[derive(Drop)]
-pub struct Queue<'a, 'b> {
-    row: &'b mut Strip<'a, u16>,
-}
+use crate::waiting::{End, Waiting};
+use strip::row::Strip;
 
-impl<'a, 'b> Queue<'a, 'b> {
-    // Those in the strip wait already.
-    pub fn new(row: &'b mut Strip<'a, u16>) -> Queue<'a, 'b>
-        ensures { result.row.now ≡ row.old }
-    {
-        Queue { row }
-    }
-}
+pub struct Oldest;
 
-impl<'a, 'b> Line for Queue<'a, 'b> {
-    ghost places = { λ s. places_of s.row.now };
-
-    ghost waiting = { λ s. items s.row.now };
-
-    ghost joins = { at_end };
-
+impl End for Oldest {
     ghost takes = { the_oldest };
 
-    fn join(&mut self, trainee: u16) -> Result<(), Full> {
-        put(self.row, trainee)
-    }
-
-    fn take(&mut self) -> Option<u16> {
-        oldest(self.row)
-    }
-
-    fn places(&self) -> usize {
-        self.row.places()
-    }
-
-    fn count(&self) -> usize {
-        self.row.count()
+    fn take<'a>(row: &mut Strip<'a, u16>) -> Option<u16> {
+        row.take_oldest()
     }
 }
+
+pub type Queue<'a, 'b> = Waiting<'a, 'b, Oldest>;

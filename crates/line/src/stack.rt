@@ -1,48 +1,19 @@
-// A line that takes the newest, on a strip of trainee numbers.
-ghost use Rattle.line.specs.Calls.{at_end, the_newest};
-ghost use Rattle.strip.specs.Rows.{items, places as places_of};
-ghost use Rattle.std.specs.Prelude.{◌≡◌};
+// A line that takes the newest.
+#![tactic(auto, using(crate::proofs::Ends::takes_newest))]
 
-use crate::line::Line;
-use crate::row::{newest, put};
-use strip::row::{Full, Strip};
+ghost use Rattle.line.specs.Calls.{the_newest};
 
-#[derive(Drop)]
-pub struct Stack<'a, 'b> {
-    row: &'b mut Strip<'a, u16>,
-}
+use crate::waiting::{End, Waiting};
+use strip::row::Strip;
 
-impl<'a, 'b> Stack<'a, 'b> {
-    // Those in the strip wait already.
-    pub fn new(row: &'b mut Strip<'a, u16>) -> Stack<'a, 'b>
-        ensures { result.row.now ≡ row.old }
-    {
-        Stack { row }
-    }
-}
+pub struct Newest;
 
-impl<'a, 'b> Line for Stack<'a, 'b> {
-    ghost places = { λ s. places_of s.row.now };
-
-    ghost waiting = { λ s. items s.row.now };
-
-    ghost joins = { at_end };
-
+impl End for Newest {
     ghost takes = { the_newest };
 
-    fn join(&mut self, trainee: u16) -> Result<(), Full> {
-        put(self.row, trainee)
-    }
-
-    fn take(&mut self) -> Option<u16> {
-        newest(self.row)
-    }
-
-    fn places(&self) -> usize {
-        self.row.places()
-    }
-
-    fn count(&self) -> usize {
-        self.row.count()
+    fn take<'a>(row: &mut Strip<'a, u16>) -> Option<u16> {
+        row.take_newest()
     }
 }
+
+pub type Stack<'a, 'b> = Waiting<'a, 'b, Newest>;

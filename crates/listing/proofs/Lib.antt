@@ -1,3 +1,2 @@
 pub mod Chain
-pub mod Wishes
 pub mod Outcomes

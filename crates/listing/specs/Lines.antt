@@ -1,9 +1,10 @@
 -- The lines that are printed. Fields stand one blank apart; byte 10 ends a line.
-use Rattle.std.specs.Prelude.{ℕ, ◌+◌, cond, List, [], ◌∷◌, ◌++◌, length, take, drop, codes, decimal, ◌==◌}
-use Rattle.std.specs.List.{range_with_len, flat_map}
+use Rattle.std.specs.Prelude.{ℕ, List, ◌++◌, length, take, drop, codes, decimal, ◌==◌}
+use Rattle.std.specs.List.{count_by, range_with_len, flat_map}
 use Rattle.format.specs.declared.fault.Layer.{Layer}
 use Rattle.format.specs.declared.fault.Layer.TheVariants.{Bytes, Records, Deck}
 use Rattle.format.specs.declared.fault.Refusal.{Refusal}
+use Rattle.intake.specs.declared.counts.Counts.{Counts}
 use Rattle.rules.specs.declared.table.Contract.{Contract}
 use Rattle.rules.specs.Contents.{Content, trainee_at}
 
@@ -24,16 +25,30 @@ line_of_refusal x = codes "REFUSED" ++ (number_field x.number ++ (codes " PLACE"
 abbrev pub name_at : List ℕ → ℕ → List ℕ
 name_at deck place = take 8 (drop place deck)
 
+-- how many entries of each table there are
+abbrev pub counts_of : Content → Counts
+counts_of t = record {
+  groups = length t.groups;
+  seats = length t.seats;
+  reserves = length t.reserves;
+  trainees = length t.trainees;
+  wishes = length t.contracts;
+  bars = length t.bars;
+}
+
+-- six counts
+abbrev pub line_of_counts : Counts → List ℕ
+line_of_counts c =
+    codes "DECK" ++ (number_field c.groups ++ (number_field c.seats ++ (number_field c.reserves
+    ++ (number_field c.trainees ++ (number_field c.wishes ++ (number_field c.bars ++ codes "\n"))))))
+
 -- the six counts of a deck
 abbrev pub line_of_deck : Content → List ℕ
-line_of_deck t =
-    codes "DECK" ++ (number_field (length t.groups) ++ (number_field (length t.seats) ++ (number_field (length t.reserves)
-    ++ (number_field (length t.trainees) ++ (number_field (length t.contracts) ++ (number_field (length t.bars) ++ codes "\n"))))))
+line_of_deck t = line_of_counts (counts_of t)
 
 -- how many of these contracts are of trainee k
 abbrev pub wishes : ℕ → List Contract → ℕ
-wishes k [] = 0
-wishes k (c ∷ cs) = cond (c.trainee == k) 1 0 + wishes k cs
+wishes k cs = count_by (λ c. c.trainee == k) cs
 
 -- the name at a place of the deck, and a number
 abbrev pub line_of_name : List ℕ → ℕ → ℕ → List ℕ

@@ -10,7 +10,8 @@ use std::io::{Read, Write};
 // One byte more than the longest deck: all that the size question needs to see.
 const ENOUGH: usize = 15364;
 
-// Fills the buffer from its front until it is full or the input ends, however small the pieces are.
+// Fills the buffer from its front until it is full or the input ends, however small the pieces are. The memory is fixed: `read_to_end` would fill a `Vec`, and
+// `read_exact` refuses an input that ends early.
 fn fill<R: Read>(input: &mut R, buf: &mut [u8]) -> io::Result<usize>
     ensures { IfOk result (λ n. n ≤ length buf.new) }
 {
@@ -51,8 +52,8 @@ mod tests {
         fn read(&mut self, buf: &mut [u8]) -> io::Result<usize> {
             let n = self.piece.min(self.left).min(buf.len());
             self.left -= n;
-            for i in 0..n {
-                buf[i] = self.next;
+            for byte in buf[..n].iter_mut() {
+                *byte = self.next;
                 self.next = self.next.wrapping_add(1);
             }
             Ok(n)

@@ -1,20 +1,22 @@
 -- The climb: one contract more, carried upwards until a group without parent was passed or a full group is met.
-use Rattle.std.proofs.Common.{◌≡◌, ℕ, ◌+◌, ◌-◌, ◌<◌, ◌≤◌, min, Bool, true, false, cond, eqb, ltb, List, length, set, Some, None, sym, refl, ap, ◌∙◌, subst, ⊎_elim, arith}
+use Rattle.std.proofs.Common.{◌≡◌, ℕ, ◌+◌, ◌-◌, ◌<◌, ◌≤◌, min, Bool, true, false, cond, eqb, ltb, List, length, Some, None, Option, sym, refl, ap, ◌∙◌, subst, ⊎_elim, arith}
 use Rattle.std.proofs.lemmas.List.{length-set, get_or-set_same, get_or-set_other}
-use Rattle.std.proofs.lemmas.Bool.{eq-eqb, ne_eqb, cases_Bool, cases_eq, cond-true, cond-false, lt-ltb, le-ltb, ltb-true, ltb-false}
+use Rattle.std.proofs.lemmas.Bool.{eq-eqb, ne_eqb, cases_eq, cond-true, cond-false, lt-ltb, le-ltb, ltb-true, ltb-false}
+use Rattle.std.proofs.lemmas.Option.{none-some, same_Some}
 use Rattle.quota.specs.declared.row.Row.{Row}
-use Rattle.quota.specs.Caps.{parent_of, cap_of, kids, Earlier}
-use Rattle.quota.specs.Climb.{stop, sum_of, parent_in, below_cap, Filled, one_more, Climbed}
-use Rattle.quota.specs.Sums.{across_same, across_bump}
+use Rattle.quota.specs.declared.sums.Sums.{Sums}
+use Rattle.quota.specs.Caps.{row_at, parent_of, cap_of, is_parent, kids, stop, Earlier}
+use Rattle.quota.specs.Climb.{sum_of, below_cap, with_one, Filled, one_more, Climbed}
+use Rattle.quota.specs.Sums.{across_bump, kids_same}
 use Rattle.quota.specs.Tree.{stop_full, stop_top, stop_up}
 
 -- all sums are right but that of v, which lacks one
 pub record Pending (rows : List Row) (S o : ℕ → ℕ) (v : ℕ) : Type 0 where
-  pub others : (w : ℕ) → w < 64 → (w ≡ v → ⊥) → S w ≡ min (cap_of rows w) (kids rows S w + o w)
-  pub some : 1 ≤ kids rows S v + o v
-  pub lacks : S v ≡ min (cap_of rows v) ((kids rows S v + o v) - 1)
+  pub others : (w : ℕ) → w < 64 → (w ≡ v → ⊥) → S w ≡ min (cap_of rows w) (kids (parent_of rows) S w + o w)
+  pub some : 1 ≤ kids (parent_of rows) S v + o v
+  pub lacks : S v ≡ min (cap_of rows v) ((kids (parent_of rows) S v + o v) - 1)
 
-pub pending_none : (rows : List Row) (S o : ℕ → ℕ) (g : ℕ) → g < 64 → Filled rows S o → Pending rows S (one_more o g) g
+pending_none : (rows : List Row) (S o : ℕ → ℕ) (g : ℕ) → g < 64 → Filled rows S o → Pending rows S (one_more o g) g
 pending_none rows S o g l f = record {
   others = λ w i ne. let a : ◌≡◌ {A = ℕ} (cond (eqb g w) 1 0) 0 = cond-false _ _ _ (ne_eqb g w (λ e. ne (sym e))) in let b = f w i in omega arith;
   some = omega (arith, one);
@@ -24,129 +26,125 @@ pending_none rows S o g l f = record {
     one : ◌≡◌ {A = ℕ} (cond (eqb g g) 1 0) 1
     one = cond-true _ _ _ (eq-eqb g g refl)
 
-pub pending_full : (rows : List Row) (S o : ℕ → ℕ) (v : ℕ) → v < 64 → Pending rows S o v → cap_of rows v ≤ S v → Filled rows S o
+pending_full : (rows : List Row) (S o : ℕ → ℕ) (v : ℕ) → v < 64 → Pending rows S o v → cap_of rows v ≤ S v → Filled rows S o
 pending_full rows S o v l p full w i = ⊎_elim
-    (λ e. let P : ℕ → Type 0 = λ j. S j ≡ min (cap_of rows j) (kids rows S j + o j) in subst P (sym e) (let a = p.some in let b = p.lacks in omega arith))
+    (λ e. let P : ℕ → Type 0 = λ j. S j ≡ min (cap_of rows j) (kids (parent_of rows) S j + o j) in subst P (sym e) (let a = p.some in let b = p.lacks in omega arith))
     (λ ne. p.others w i ne) (cases_eq w v)
 
 -- the sum of v becomes one more
 module _ (rows : List Row) (ea : Earlier rows) (S T o : ℕ → ℕ) (v : ℕ) (l : v < 64) (at : T v ≡ S v + 1) (off : (w : ℕ) → (w ≡ v → ⊥) → T w ≡ S w) where
-  kids_parent : (w : ℕ) → eqb (parent_of rows v) w ≡ true → kids rows T w ≡ kids rows S w + 1
+  kids_parent : (w : ℕ) → parent_of rows v ≡ Some w → kids (parent_of rows) T w ≡ kids (parent_of rows) S w + 1
   kids_parent w e =
-      across_bump (λ c. cond (eqb (parent_of rows c) w) (S c) 0) (λ c. cond (eqb (parent_of rows c) w) (T c) 0) v 1 l
-      (cond-true _ _ _ e ∙ at ∙ ap (λ x. x + 1) (sym (cond-true _ _ _ e)))
-      (λ c i ne. ap (λ x. cond (eqb (parent_of rows c) w) x 0) (off c ne))
+      let b : is_parent (parent_of rows v) w ≡ true = ap (λ q. is_parent q w) e ∙ eq-eqb w w refl in
+      across_bump (λ c. cond (is_parent (parent_of rows c) w) (S c) 0) (λ c. cond (is_parent (parent_of rows c) w) (T c) 0) v 1 l
+      (cond-true _ _ _ b ∙ at ∙ ap (λ x. x + 1) (sym (cond-true _ _ _ b)))
+      (λ c i ne. ap (λ x. cond (is_parent (parent_of rows c) w) x 0) (off c ne))
 
-  kids_other : (w : ℕ) → eqb (parent_of rows v) w ≡ false → kids rows T w ≡ kids rows S w
-  kids_other w e = across_same (λ c. cond (eqb (parent_of rows c) w) (T c) 0) (λ c. cond (eqb (parent_of rows c) w) (S c) 0) same
-    where
-      same : (c : ℕ) → c < 64 → cond (eqb (parent_of rows c) w) (T c) 0 ≡ cond (eqb (parent_of rows c) w) (S c) 0
-      same c i = ⊎_elim
-          (λ q. let f : eqb (parent_of rows c) w ≡ false = ap (λ j. eqb (parent_of rows j) w) q ∙ e in cond-false _ _ _ f ∙ sym (cond-false _ _ _ f))
-          (λ ne. ap (λ x. cond (eqb (parent_of rows c) w) x 0) (off c ne)) (cases_eq c v)
-
-  not_own : eqb (parent_of rows v) v ≡ false
-  not_own = ne_eqb _ _ (λ e. let q : parent_of rows v < v = ea v l (omega arith) in omega arith)
+  kids_other : (w : ℕ) → (parent_of rows v ≡ Some w → ⊥) → kids (parent_of rows) T w ≡ kids (parent_of rows) S w
+  kids_other w e = kids_same (parent_of rows) ea T S w (λ c p i j. off c (λ q. e (ap (λ k. parent_of rows k) (sym q) ∙ p)))
 
   module _ (p : Pending rows S o v) (room : S v < cap_of rows v) where
-    right : (w : ℕ) → w < 64 → eqb (parent_of rows v) w ≡ false → T w ≡ min (cap_of rows w) (kids rows T w + o w)
+    right : (w : ℕ) → w < 64 → (parent_of rows v ≡ Some w → ⊥) → T w ≡ min (cap_of rows w) (kids (parent_of rows) T w + o w)
     right w i e = ⊎_elim here (λ ne. let a = off w ne in let b = kids_other w e in let c = p.others w i ne in omega arith) (cases_eq w v)
       where
-        here : w ≡ v → T w ≡ min (cap_of rows w) (kids rows T w + o w)
+        here : w ≡ v → T w ≡ min (cap_of rows w) (kids (parent_of rows) T w + o w)
         here q =
-            let P : ℕ → Type 0 = λ j. T j ≡ min (cap_of rows j) (kids rows T j + o j) in
-            subst P (sym q) (let b = kids_other v not_own in let c = p.some in let d = p.lacks in omega arith)
+            let P : ℕ → Type 0 = λ j. T j ≡ min (cap_of rows j) (kids (parent_of rows) T j + o j) in
+            subst P (sym q) (let b = kids_other v (λ h. let a : v < v = ea v v h in omega arith) in let c = p.some in let d = p.lacks in omega arith)
 
-    pub pending-top : 64 ≤ parent_of rows v → Filled rows T o
-    pending-top h w i = right w i (ne_eqb _ _ (λ e. omega arith))
+    pending-top : parent_of rows v ≡ None → Filled rows T o
+    pending-top h w i = right w i (λ e. none-some w (sym h ∙ e))
 
-    pub pending-up : parent_of rows v < 64 → Pending rows T o (parent_of rows v)
-    pending-up h =
-        let q : parent_of rows v < v = ea v l h in
-        let a : T (parent_of rows v) ≡ S (parent_of rows v) = off (parent_of rows v) (λ e. omega arith) in
-        let b : kids rows T (parent_of rows v) ≡ kids rows S (parent_of rows v) + 1 = kids_parent (parent_of rows v) (eq-eqb _ _ refl) in
-        let c = p.others (parent_of rows v) h (λ e. omega arith) in
+    pending-up : (u : ℕ) → parent_of rows v ≡ Some u → u < 64 → Pending rows T o u
+    pending-up u h k =
+        let q : u < v = ea v u h in
+        let a : T u ≡ S u = off u (λ e. omega arith) in
+        let b : kids (parent_of rows) T u ≡ kids (parent_of rows) S u + 1 = kids_parent u h in
+        let c = p.others u k (λ e. omega arith) in
         record {
-          others = λ w i ne. right w i (ne_eqb _ _ (λ e. ne (sym e)));
+          others = λ w i ne. right w i (λ e. ne (same_Some w u (sym e ∙ h)));
           some = omega arith;
           lacks = omega arith;
         }
 
-no_parent : (rows : List Row) (v : ℕ) → None ≡ parent_in rows v → 64 ≤ parent_of rows v
-no_parent rows v e = ⊎_elim
-    (λ t. absurd (let z : None ≡ Some (parent_of rows v) = e ∙ cond-true _ _ _ t in let y : ◌≡◌ {A = ℕ} 0 1 = cc in omega arith))
-    (λ f. ltb-false _ _ f) (cases_Bool (ltb (parent_of rows v) 64))
-
-its_parent : (rows : List Row) (v p : ℕ) → Some p ≡ parent_in rows v → (parent_of rows v < 64) × (p ≡ parent_of rows v)
-its_parent rows v p e = ⊎_elim
-    (λ t. (ltb-true _ _ t, (let z : Some p ≡ Some (parent_of rows v) = e ∙ cond-true _ _ _ t in cc)))
-    (λ f. absurd (let z : Some p ≡ None = e ∙ cond-false _ _ _ f in let y : ◌≡◌ {A = ℕ} 0 1 = cc in omega arith)) (cases_Bool (ltb (parent_of rows v) 64))
-
 -- the climb from g stands at v
-pub record Climbing (rows : List Row) (from sums : List ℕ) (g v : ℕ) : Type 0 where
+pub record Climbing (rows : List Row) (from s : Sums) (g v : ℕ) : Type 0 where
   pub within : v < 64
-  pub long : length sums ≡ 64
+  pub long : length s.counts ≡ 64
+  pub dredger : s.dredger ≡ from.dredger
   pub answer : stop (parent_of rows) (below_cap rows from) g ≡ stop (parent_of rows) (below_cap rows from) v
-  pub still : (w : ℕ) → w ≤ v → sum_of sums w ≡ sum_of from w
-  pub counted : (own : ℕ → ℕ) → Filled rows (sum_of from) own → Pending rows (sum_of sums) (one_more own g) v
+  pub still : (w : ℕ) → w ≤ v → sum_of s w ≡ sum_of from w
+  pub counted : (own : ℕ → ℕ) → Filled rows (sum_of from) own → Pending rows (sum_of s) (one_more own g) v
 
-pub climbing_none : (rows : List Row) (from : List ℕ) (g : ℕ) → length from ≡ 64 → g < 64 → Climbing rows from from g g
-climbing_none rows from g len l = record
-    { within = l; long = len; answer = refl; still = λ w i. refl; counted = λ own f. pending_none rows (sum_of from) own g l f }
+pub climbing_none : (rows : List Row) (from : Sums) (g : ℕ) → length from.counts ≡ 64 → g < 64 → Climbing rows from from g g
+climbing_none rows from g len l = record {
+  within = l;
+  long = len;
+  dredger = refl;
+  answer = refl;
+  still = λ w i. refl;
+  counted = λ own f. pending_none rows (sum_of from) own g l f;
+}
 
-module _ (rows : List Row) (ea : Earlier rows) (from sums : List ℕ) (g v : ℕ) (c : Climbing rows from sums g v) where
-  tested : sum_of sums v ≡ sum_of from v
+-- the turn at v
+module _ {rows : List Row} {from s : Sums} {g v : ℕ} (ea : Earlier rows) (c : Climbing rows from s g v) where
+  tested : sum_of s v ≡ sum_of from v
   tested = c.still v (omega arith)
 
-  pub climbing_full : cap_of rows v ≤ sum_of sums v → Climbed rows from g sums (Some v)
+  climbing_full : cap_of rows v ≤ sum_of s v → Climbed rows from g s (Some v)
   climbing_full h = record {
     answer = sym (c.answer ∙ stop_full (parent_of rows) (below_cap rows from) ea v (le-ltb _ _ (let e = tested in omega arith)));
-    counted = λ own f. pending_full rows (sum_of sums) (one_more own g) v c.within (c.counted own f) h;
+    dredger = c.dredger;
+    counted = λ own f. pending_full rows (sum_of s) (one_more own g) v c.within (c.counted own f) h;
   }
 
-  module _ (h : sum_of sums v < cap_of rows v) where
+  module _ (h : sum_of s v < cap_of rows v) where
     open-now : below_cap rows from v ≡ true
     open-now = lt-ltb _ _ (let e = tested in omega arith)
 
-    at : sum_of (set sums v (sum_of sums v + 1)) v ≡ sum_of sums v + 1
-    at = get_or-set_same sums v (sum_of sums v + 1) 0 (let a = c.within in let b = c.long in omega arith)
+    at : sum_of (with_one s v) v ≡ sum_of s v + 1
+    at = get_or-set_same s.counts v (sum_of s v + 1) 0 (let a = c.within in let b = c.long in omega arith)
 
-    off : (w : ℕ) → (w ≡ v → ⊥) → sum_of (set sums v (sum_of sums v + 1)) w ≡ sum_of sums w
-    off w ne = get_or-set_other sums v w (sum_of sums v + 1) 0 ne
+    off : (w : ℕ) → (w ≡ v → ⊥) → sum_of (with_one s v) w ≡ sum_of s w
+    off w ne = get_or-set_other s.counts v w (sum_of s v + 1) 0 ne
 
-    pub climbing-top : 64 ≤ parent_of rows v → Climbed rows from g (set sums v (sum_of sums v + 1)) None
+    climbing-top : parent_of rows v ≡ None → Climbed rows from g (with_one s v) None
     climbing-top p = record {
       answer = sym (c.answer ∙ stop_top (parent_of rows) (below_cap rows from) ea v open-now p);
-      counted = λ own f. pending-top rows ea (sum_of sums) (sum_of (set sums v (sum_of sums v + 1))) (one_more own g) v c.within at off (c.counted own f) h p;
+      dredger = c.dredger;
+      counted = λ own f. pending-top rows ea (sum_of s) (sum_of (with_one s v)) (one_more own g) v c.within at off (c.counted own f) h p;
     }
 
-    pub climbing-up : parent_of rows v < 64 → Climbing rows from (set sums v (sum_of sums v + 1)) g (parent_of rows v)
-    climbing-up p =
-        let q : parent_of rows v < v = ea v c.within p in
+    climbing-up : (p : ℕ) → parent_of rows v ≡ Some p → Climbing rows from (with_one s v) g p
+    climbing-up p e =
+        let q : p < v = ea v p e in
+        let k : p < 64 = omega (arith, c.within) in
         record {
-          within = p;
-          long = length-set sums v (sum_of sums v + 1) ∙ c.long;
-          answer = c.answer ∙ stop_up (parent_of rows) (below_cap rows from) ea v c.within open-now p;
+          within = k;
+          long = length-set s.counts v (sum_of s v + 1) ∙ c.long;
+          dredger = c.dredger;
+          answer = c.answer ∙ stop_up (parent_of rows) (below_cap rows from) ea v p c.within open-now e;
           still = λ w i. off w (λ e. omega arith) ∙ c.still w (omega arith);
-          counted = λ own f. pending-up rows ea (sum_of sums) (sum_of (set sums v (sum_of sums v + 1))) (one_more own g) v c.within at off (c.counted own f) h p;
+          counted = λ own f. pending-up rows ea (sum_of s) (sum_of (with_one s v)) (one_more own g) v c.within at off (c.counted own f) h p e k;
         }
 
--- the turn at v, by what `take_place` and `parent` answer
-module _ (rows : List Row) (ea : Earlier rows) (from sums next : List ℕ) (g v : ℕ) (took : Bool) (c : Climbing rows from sums g v)
-    (t : took ≡ below_cap rows sums v) (n : next ≡ cond took (set sums v (sum_of sums v + 1)) sums) where
-  pub turn_full : took ≡ false → Climbed rows from g next (Some v)
-  turn_full f =
-      let P : List ℕ → Type 0 = λ l. Climbed rows from g l (Some v) in
-      subst P (sym (n ∙ cond-false _ _ _ f)) (climbing_full rows ea from sums g v c (ltb-false _ _ (sym t ∙ f)))
+  -- by what `row` and `take_place` answer, and what is left
+  module _ {row : Row} {took : Bool} {next : Sums} (r : row ≡ row_at rows v) (t : took ≡ ltb (sum_of s v) row.cap) (n : next ≡ cond took (with_one s v) s) where
+    answered : took ≡ below_cap rows s v
+    answered = t ∙ ap (λ q. ltb (sum_of s v) q.cap) r
 
-  pub turn_top : took ≡ true → None ≡ parent_in rows v → Climbed rows from g next None
-  turn_top f e =
-      let P : List ℕ → Type 0 = λ l. Climbed rows from g l None in
-      subst P (sym (n ∙ cond-true _ _ _ f)) (climbing-top rows ea from sums g v c (ltb-true _ _ (sym t ∙ f)) (no_parent rows v e))
+    pub turn_full : took ≡ false → Climbed rows from g next (Some v)
+    turn_full f =
+        let P : Sums → Type 0 = λ l. Climbed rows from g l (Some v) in
+        subst P (sym (n ∙ cond-false _ _ _ f)) (climbing_full (ltb-false _ _ (sym answered ∙ f)))
 
-  pub turn_up : (p : ℕ) → took ≡ true → Some p ≡ parent_in rows v → Climbing rows from next g p
-  turn_up p f e =
-      let q = its_parent rows v p e in
-      let P : List ℕ → Type 0 = λ l. Climbing rows from l g (parent_of rows v) in
-      let Q : ℕ → Type 0 = λ j. Climbing rows from next g j in
-      subst Q (sym q.1) (subst P (sym (n ∙ cond-true _ _ _ f)) (climbing-up rows ea from sums g v c (ltb-true _ _ (sym t ∙ f)) q.0))
+    pub turn_top : (q : Option ℕ) → q ≡ None → took ≡ true → parent_of rows v ≡ None → Climbed rows from g next q
+    turn_top q z f e =
+        let P : Sums → Type 0 = λ l. Climbed rows from g l None in
+        let Q : Option ℕ → Type 0 = λ a. Climbed rows from g next a in
+        subst Q (sym z) (subst P (sym (n ∙ cond-true _ _ _ f)) (climbing-top (ltb-true _ _ (sym answered ∙ f)) e))
+
+    pub turn_up : (p : ℕ) → took ≡ true → parent_of rows v ≡ Some p → Climbing rows from next g p
+    turn_up p f e =
+        let P : Sums → Type 0 = λ l. Climbing rows from l g p in
+        subst P (sym (n ∙ cond-true _ _ _ f)) (climbing-up (ltb-true _ _ (sym answered ∙ f)) p e)

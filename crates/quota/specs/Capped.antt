@@ -1,27 +1,28 @@
 -- The three laws of a choice by caps on a tree of groups, over any order of the contracts.
-use Rattle.std.specs.Prelude.{◌≡◌, ℕ, zero, suc, ◌+◌, ◌<◌, ◌≤◌, min, Bool, true, false, cond, ◌&&◌, ltb, ◌⊎◌, ◌==◌, ◌≢◌, nat_eq, nat_lt, refl}
-use Rattle.std.proofs.Common.{sym, ◌∙◌, ap, subst, inl, inr, ⊎_elim, arith}
+use Rattle.std.specs.Prelude.{◌≡◌, ℕ, ◌+◌, ◌<◌, ◌≤◌, min, Bool, true, false, ◌&&◌, ltb, ◌==◌, ◌≢◌, Some, Option, nat_eq, nat_lt, refl}
+use Rattle.std.proofs.Common.{sym, ◌∙◌, ap, subst, ⊎_elim, arith}
 use Rattle.std.proofs.Math.Path.{fun_ext}
-use Rattle.std.proofs.lemmas.Bool.{and_parts, and_from, and_left, and_right, and_cases, not_from_true, cases_Bool, cases_eq, cases_lt, both_ways, eq-eqb, eqb-true, ltb-true, ltb-false, lt-ltb, cond-false}
+use Rattle.std.proofs.lemmas.Bool.{and_parts, and_from, and_left, and_right, and_cases, not_from_true, cases_Bool, cases_eq, cases_lt, both_ways, eq-eqb, ne_eqb, ltb-true, ltb-false, lt-ltb, le-ltb}
+use Rattle.std.proofs.lemmas.Option.{same_Some}
 use Rattle.moves.specs.Bags.{passing}
 use Rattle.matching.specs.Sets.{Set, less}
 use Rattle.matching.specs.Choices.{KeepsPart, Substitutable, Lawful}
 use Rattle.matching.proofs.Sets.{same_bool, less_other, less_of}
 use Rattle.matching.proofs.Sums.{passing_le}
 use Rattle.matching.proofs.Thinning.{one_removed}
-use Rattle.quota.specs.Caps.{across, upwards}
+use Rattle.quota.specs.Caps.{kids, upwards}
 use Rattle.quota.specs.Rule.{Up, here, there}
-use Rattle.quota.specs.Sums.{across_le, across_same}
-use Rattle.quota.specs.Tree.{up_trans, down, upwards_suc, upwards_all, upwards_from, upwards_fails}
+use Rattle.quota.specs.Sums.{kids_le, kids_same}
+use Rattle.quota.specs.Tree.{up_trans, down, upwards_all, upwards_from, upwards_fails}
 
 -- caps on a tree, and an order of the n contracts
 pub record Caps : Type 0 where
   pub n : ℕ
-  pub par : ℕ → ℕ
+  pub par : ℕ → Option ℕ
   pub cap : ℕ → ℕ
   pub grp : ℕ → ℕ
   pub ord : ℕ → ℕ → Bool
-  pub earlier : (v : ℕ) → v < 64 → par v < 64 → par v < v
+  pub earlier : (v p : ℕ) → par v ≡ Some p → p < v
   pub none : (v : ℕ) → 64 ≤ v → cap v ≡ 0
   pub irrefl : (j : ℕ) → ord j j ≡ false
   pub trans : (i j k : ℕ) → ord i j ≡ true → ord j k ≡ true → ord i k ≡ true
@@ -29,14 +30,11 @@ pub record Caps : Type 0 where
 abbrev pub own : Caps → ℕ → Set → ℕ → ℕ
 own T v X k = passing T.n (λ j. X j && (T.grp j == v && T.ord j k))
 
-abbrev pub kids : Caps → (ℕ → Set → ℕ → ℕ) → ℕ → Set → ℕ → ℕ
-kids T G v X k = across (λ c. cond (T.par c == v) (G c X k) 0)
-
 abbrev pub Fills : Caps → (ℕ → Set → ℕ → ℕ) → Type 0
-Fills T G = (v : ℕ) (X : Set) (k : ℕ) → v < 64 → G v X k ≡ min (T.cap v) (kids T G v X k + own T v X k)
+Fills T G = (v : ℕ) (X : Set) (k : ℕ) → v < 64 → G v X k ≡ min (T.cap v) (kids T.par (λ c. G c X k) v + own T v X k)
 
 abbrev pub chosen : Caps → (ℕ → Set → ℕ → ℕ) → Set → Set
-chosen T G X k = X k && upwards T.par (λ v. ltb (G v X k) (T.cap v)) 64 (T.grp k)
+chosen T G X k = X k && upwards T.par (λ v. ltb (G v X k) (T.cap v)) (T.grp k)
 
 module _ (T : Caps) (G : ℕ → Set → ℕ → ℕ) (eqn : Fills T G) where
   abbrev ok : Set → ℕ → ℕ → Bool
@@ -59,22 +57,12 @@ module _ (T : Caps) (G : ℕ → Set → ℕ → ℕ) (eqn : Fills T G) where
           let c = h j i a.0 b.1 in
           and_from _ _ c.0 (and_from _ _ b.0 c.1)
 
-  cond_le : (b : Bool) (x y : ℕ) → (b ≡ true → x ≤ y) → cond b x 0 ≤ cond b y 0
-  cond_le true x y h = h refl
-  cond_le false x y h = omega arith
-
-  child : (c v : ℕ) → c < 64 → v < 64 → (T.par c == v) ≡ true → v < c
-  child c v i l e =
-      let p : T.par c ≡ v = eqb-true _ _ e in
-      let q : T.par c < c = T.earlier c i (omega arith) in
-      omega arith
-
   more : (X Y : Set) (k l : ℕ) → Less X k Y l → (v : ℕ) → v < 64 → G v X k ≤ G v Y l
   more X Y k l h = down (λ v. G v X k ≤ G v Y l) step
     where
       step : (v : ℕ) → v < 64 → ((c : ℕ) → v < c → c < 64 → G c X k ≤ G c Y l) → G v X k ≤ G v Y l
       step v i ih =
-          let a : kids T G v X k ≤ kids T G v Y l = across_le (λ c. cond (T.par c == v) (G c X k) 0) (λ c. cond (T.par c == v) (G c Y l) 0) (λ c j. cond_le (T.par c == v) (G c X k) (G c Y l) (λ e. ih c (child c v j i e) j)) in
+          let a : kids T.par (λ c. G c X k) v ≤ kids T.par (λ c. G c Y l) v = kids_le T.par T.earlier (λ c. G c X k) (λ c. G c Y l) v ih in
           let b : own T v X k ≤ own T v Y l = own_le X Y k l h v in
           let e = eqn v X k i in
           let f = eqn v Y l i in
@@ -85,22 +73,20 @@ module _ (T : Caps) (G : ℕ → Set → ℕ → ℕ) (eqn : Fills T G) where
       (λ i. absurd (let a = T.none v i in let b = ltb-true _ _ e in omega arith)) (cases_lt v 64)
 
   -- a group that passes at all is one of the 64
+  closed : (X : Set) (k v : ℕ) → 64 ≤ v → ok X k v ≡ false
+  closed X k v l = le-ltb _ _ (omega (arith, T.none v l))
+
   real : (X : Set) (k v : ℕ) → ok X k v ≡ true → v < 64
-  real X k v e = ⊎_elim (λ i. i) (λ i. absurd (let a = T.none v i in let b = ltb-true _ _ e in omega arith)) (cases_lt v 64)
+  real X k v e = ⊎_elim (λ i. i) (λ i. absurd (both_ways _ (closed X k v i) e)) (cases_lt v 64)
 
-  pass_first : (X : Set) (k : ℕ) → upwards T.par (ok X k) 64 (T.grp k) ≡ true → ok X k (T.grp k) ≡ true
-  pass_first X k e = (and_parts (ok X k (T.grp k)) (cond (nat_lt (T.par (T.grp k)) 64) (upwards T.par (ok X k) 63 (T.par (T.grp k))) true) (sym (upwards_suc T.par (ok X k) 63 (T.grp k)) ∙ e)).0
-
-  pass_all : (X : Set) (k : ℕ) → upwards T.par (ok X k) 64 (T.grp k) ≡ true → (w : ℕ) → Up T.par (T.grp k) w → ok X k w ≡ true
-  pass_all X k e =
-      let l = real X k (T.grp k) (pass_first X k e) in
-      upwards_all T.par (ok X k) T.earlier 64 (T.grp k) l l e
+  pass_all : (X : Set) (k : ℕ) → upwards T.par (ok X k) (T.grp k) ≡ true → (w : ℕ) → Up T.par (T.grp k) w → ok X k w ≡ true
+  pass_all X k = upwards_all T.par (ok X k) T.earlier (λ v. closed X k v) (T.grp k)
 
   pass_by : (X Y : Set) (k : ℕ) → ((w : ℕ) → Up T.par (T.grp k) w → ok Y k w ≡ true → ok X k w ≡ true)
-      → upwards T.par (ok Y k) 64 (T.grp k) ≡ true → upwards T.par (ok X k) 64 (T.grp k) ≡ true
-  pass_by X Y k h e = upwards_from T.par (ok X k) 64 (T.grp k) (λ w u. h w u (pass_all Y k e w u))
+      → upwards T.par (ok Y k) (T.grp k) ≡ true → upwards T.par (ok X k) (T.grp k) ≡ true
+  pass_by X Y k h e = upwards_from T.par (ok X k) T.earlier (T.grp k) (λ w u. h w u (pass_all Y k e w u))
 
-  pass_le : (X Y : Set) (k : ℕ) → Less X k Y k → upwards T.par (ok Y k) 64 (T.grp k) ≡ true → upwards T.par (ok X k) 64 (T.grp k) ≡ true
+  pass_le : (X Y : Set) (k : ℕ) → Less X k Y k → upwards T.par (ok Y k) (T.grp k) ≡ true → upwards T.par (ok X k) (T.grp k) ≡ true
   pass_le X Y k h = pass_by X Y k (λ w u. open_le X Y k k h w)
 
   chosen_part : KeepsPart T.n (chosen T G)
@@ -108,7 +94,7 @@ module _ (T : Caps) (G : ℕ → Set → ℕ → ℕ) (eqn : Fills T G) where
 
   chosen-substitutable : Substitutable T.n (chosen T G)
   chosen-substitutable X Y inside w k h e =
-      and_right (Y k) _ (⊎_elim (λ p. absurd (both_ways _ e (and_from _ _ h (pass_le X Y k (λ j i a b. (w j a, b)) p)))) (λ p. p) (cases_Bool (upwards T.par (ok Y k) 64 (T.grp k))))
+      and_right (Y k) _ (⊎_elim (λ p. absurd (both_ways _ e (and_from _ _ h (pass_le X Y k (λ j i a b. (w j a, b)) p)))) (λ p. p) (cases_Bool (upwards T.par (ok Y k) (T.grp k))))
 
   -- the removal of one contract z that is not kept; at u it finds no place
   module _ (X : Set) (z u : ℕ) (up : Up T.par (T.grp z) u) (full : ok X z u ≡ false) (k : ℕ) (zk : T.ord z k ≡ true) where
@@ -126,34 +112,13 @@ module _ (T : Caps) (G : ℕ → Set → ℕ → ℕ) (eqn : Fills T G) where
     fewer : (v : ℕ) → v < 64 → G v (less X z) k ≤ G v X k
     fewer v l = more (less X z) X k k (λ j i x o. ((and_parts _ _ x).0, o)) v l
 
-    -- either z's removal is not seen at v, or the full group is above v
-    abbrev Seen : ℕ → Type 0
-    Seen v = (G v (less X z) k ≡ G v X k) ⊎ ((T.par v < 64) × Up T.par (T.par v) u)
+    -- the full group is not above v
+    abbrev Apart : ℕ → Type 0
+    Apart v = (p : ℕ) → T.par v ≡ Some p → Up T.par p u → ⊥
 
-    strictly : (v : ℕ) → (v ≢ u) → Up T.par v u → (T.par v < 64) × Up T.par (T.par v) u
-    strictly v ne here = absurd (ne refl)
-    strictly v ne (there l a) = (l, a)
-
-    kids-seen : (v : ℕ) → v < 64 → ((c : ℕ) → v < c → c < 64 → Seen c) → (i : ℕ) → i ≤ 64
-        → ((c : ℕ) → c < i → cond (T.par c == v) (G c (less X z) k) 0 ≡ cond (T.par c == v) (G c X k) 0) ⊎ Up T.par v u
-    kids-seen v l ih zero h = inl (λ c i. absurd (omega arith))
-    kids-seen v l ih (suc i) h = ⊎_elim before (λ a. inr a) (kids-seen v l ih i (omega arith))
-      where
-        before : ((c : ℕ) → c < i → cond (T.par c == v) (G c (less X z) k) 0 ≡ cond (T.par c == v) (G c X k) 0)
-            → ((c : ℕ) → c < suc i → cond (T.par c == v) (G c (less X z) k) 0 ≡ cond (T.par c == v) (G c X k) 0) ⊎ Up T.par v u
-        before b = ⊎_elim yes' no' (cases_Bool (T.par i == v))
-          where
-            all : cond (T.par i == v) (G i (less X z) k) 0 ≡ cond (T.par i == v) (G i X k) 0
-                → (c : ℕ) → c < suc i → cond (T.par c == v) (G c (less X z) k) 0 ≡ cond (T.par c == v) (G c X k) 0
-            all e c a = ⊎_elim (λ q. b c q)
-                (λ q. let eq : i ≡ c = omega arith in let P : ℕ → Type 0 = λ j. cond (T.par j == v) (G j (less X z) k) 0 ≡ cond (T.par j == v) (G j X k) 0 in subst P eq e) (cases_lt c i)
-
-            no' : nat_eq (T.par i) v ≡ false → ((c : ℕ) → c < suc i → cond (T.par c == v) (G c (less X z) k) 0 ≡ cond (T.par c == v) (G c X k) 0) ⊎ Up T.par v u
-            no' e = inl (all (cond-false _ _ _ e ∙ sym (cond-false _ _ _ e)))
-
-            yes' : nat_eq (T.par i) v ≡ true → ((c : ℕ) → c < suc i → cond (T.par c == v) (G c (less X z) k) 0 ≡ cond (T.par c == v) (G c X k) 0) ⊎ Up T.par v u
-            yes' e = ⊎_elim (λ q. inl (all (ap (λ x. cond (T.par i == v) x 0) q)))
-                (λ q. inr (let P : ℕ → Type 0 = λ j. Up T.par j u in subst P (eqb-true _ _ e) q.1)) (ih i (child i v (omega arith) l e) (omega arith))
+    not-under : (v : ℕ) → (v ≢ u) → Apart v → Up T.par v u → ⊥
+    not-under v ne h here = ne refl
+    not-under v ne h (there {p} e a) = h p e a
 
     own_same : (v : ℕ) → (T.grp z == v) ≡ false → own T v (less X z) k ≡ own T v X k
     own_same v e = ap (λ p. passing T.n p) (fun_ext at)
@@ -162,33 +127,36 @@ module _ (T : Caps) (G : ℕ → Set → ℕ → ℕ) (eqn : Fills T G) where
         at j = ⊎_elim (λ q. let g : nat_eq (T.grp j) v ≡ false = ap (λ i. nat_eq (T.grp i) v) q ∙ e in and_right _ _ (and_left _ _ g) ∙ sym (and_right _ _ (and_left _ _ g)))
             (λ q. ap (λ t. t && (T.grp j == v && T.ord j k)) (less_other X z j q)) (cases_eq j z)
 
-    seen : (v : ℕ) → v < 64 → Seen v
-    seen = down Seen step
+    -- z's removal is seen only below the full group
+    unseen : (v : ℕ) → v < 64 → Apart v → G v (less X z) k ≡ G v X k
+    unseen = down (λ v. Apart v → G v (less X z) k ≡ G v X k) step
       where
-        step : (v : ℕ) → v < 64 → ((c : ℕ) → v < c → c < 64 → Seen c) → Seen v
-        step v l ih = ⊎_elim at-u (λ ne. ⊎_elim (λ g. inr (strictly v ne (let P : ℕ → Type 0 = λ j. Up T.par j u in subst P (eqb-true _ _ g) up))) (λ g. ⊎_elim (λ s. inl (even g s)) (λ a. inr (strictly v ne a)) (kids-seen v l ih 64 (omega arith))) (cases_Bool (T.grp z == v))) (cases_eq v u)
+        step : (v : ℕ) → v < 64 → ((c : ℕ) → v < c → c < 64 → Apart c → G c (less X z) k ≡ G c X k) → Apart v → G v (less X z) k ≡ G v X k
+        step v l ih h = ⊎_elim at-u (λ ne. even (not-under v ne h)) (cases_eq v u)
           where
-            at-u : v ≡ u → Seen v
+            at-u : v ≡ u → G v (less X z) k ≡ G v X k
             at-u e =
                 let P : ℕ → Type 0 = λ j. T.cap j ≤ G j (less X z) k in
                 let a : T.cap v ≤ G v (less X z) k = subst P (sym e) (still (let Q : ℕ → Type 0 = λ j. j < 64 in subst Q e l)) in
                 let b : G v (less X z) k ≤ G v X k = fewer v l in
                 let c : G v X k ≤ T.cap v = in_cap v X k l in
-                inl (omega arith)
+                omega arith
 
-            even : nat_eq (T.grp z) v ≡ false → ((c : ℕ) → c < 64 → cond (T.par c == v) (G c (less X z) k) 0 ≡ cond (T.par c == v) (G c X k) 0) → G v (less X z) k ≡ G v X k
-            even g s =
-                let a : kids T G v (less X z) k ≡ kids T G v X k = across_same (λ c. cond (T.par c == v) (G c (less X z) k) 0) (λ c. cond (T.par c == v) (G c X k) 0) s in
-                let b : own T v (less X z) k ≡ own T v X k = own_same v g in
+            even : (Up T.par v u → ⊥) → G v (less X z) k ≡ G v X k
+            even n =
+                let P : ℕ → Type 0 = λ j. Up T.par j u in
+                let a : kids T.par (λ c. G c (less X z) k) v ≡ kids T.par (λ c. G c X k) v =
+                kids_same T.par T.earlier (λ c. G c (less X z) k) (λ c. G c X k) v (λ c e i j. ih c i j (λ p q b. n (subst P (same_Some p v (sym q ∙ e)) b))) in
+                let b : own T v (less X z) k ≡ own T v X k = own_same v (ne_eqb _ _ (λ e. n (subst P e up))) in
                 let e = eqn v (less X z) k l in
                 let f = eqn v X k l in
                 omega (arith, e, f)
 
-    below : upwards T.par (ok (less X z) k) 64 (T.grp k) ≡ true → upwards T.par (ok X k) 64 (T.grp k) ≡ true
+    below : upwards T.par (ok (less X z) k) (T.grp k) ≡ true → upwards T.par (ok X k) (T.grp k) ≡ true
     below e = pass_by X (less X z) k at e
       where
         at : (w : ℕ) → Up T.par (T.grp k) w → ok (less X z) k w ≡ true → ok X k w ≡ true
-        at w a o = ⊎_elim (λ q. ap (λ x. ltb x (T.cap w)) (sym q) ∙ o) (λ q. absurd (never (up_trans a (there q.0 q.1)))) (seen w (real (less X z) k w o))
+        at w a o = ap (λ x. ltb x (T.cap w)) (sym (unseen w (real (less X z) k w o) (λ p e b. never (up_trans a (there e b))))) ∙ o
           where
             never : Up T.par (T.grp k) u → ⊥
             never b =
@@ -199,14 +167,14 @@ module _ (T : Caps) (G : ℕ → Set → ℕ → ℕ) (eqn : Fills T G) where
                 omega arith
 
   module _ (X : Set) (z : ℕ) (x : X z ≡ true) (e : chosen T G X z ≡ false) where
-    shut : upwards T.par (ok X z) 64 (T.grp z) ≡ false
+    shut : upwards T.par (ok X z) (T.grp z) ≡ false
     shut = ⊎_elim (λ a. absurd (both_ways _ a x)) (λ a. a) (and_cases (X z) _ e)
 
     apart : (k : ℕ) → T.ord z k ≡ false → (j : ℕ) → T.ord j k ≡ true → j ≢ z
     apart k f j o q = both_ways _ f (let P : ℕ → Type 0 = λ i. T.ord i k ≡ true in subst P q o)
 
-    back : (k : ℕ) → upwards T.par (ok (less X z) k) 64 (T.grp k) ≡ true → upwards T.par (ok X k) 64 (T.grp k) ≡ true
-    back k = ⊎_elim (λ zk. let f = upwards_fails T.par (ok X z) 64 (T.grp z) shut in below X z f.0 f.1 f.2 k zk)
+    back : (k : ℕ) → upwards T.par (ok (less X z) k) (T.grp k) ≡ true → upwards T.par (ok X k) (T.grp k) ≡ true
+    back k = ⊎_elim (λ zk. let f = upwards_fails T.par (ok X z) T.earlier (T.grp z) shut in let d = f.2 in below X z f.0 d.up d.fails k zk)
         (λ zk. pass_le X (less X z) k (λ j i a o. (less_other X z j (apart k zk j o) ∙ a, o))) (cases_Bool (T.ord z k))
 
     removed-at : (k : ℕ) → chosen T G (less X z) k ≡ chosen T G X k
@@ -217,7 +185,7 @@ module _ (T : Caps) (G : ℕ → Set → ℕ → ℕ) (eqn : Fills T G) where
 
         differ : (k ≢ z) → chosen T G (less X z) k ≡ chosen T G X k
         differ ne =
-            ap (λ t. t && upwards T.par (ok (less X z) k) 64 (T.grp k)) (less_other X z k ne)
+            ap (λ t. t && upwards T.par (ok (less X z) k) (T.grp k)) (less_other X z k ne)
             ∙ ap (λ t. X k && t) (same_bool _ _ (back k) (pass_le (less X z) X k (λ j i a o. (less_of X z j a, o))))
 
   pub chosen-lawful : Lawful T.n (chosen T G)

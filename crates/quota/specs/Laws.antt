@@ -1,53 +1,39 @@
 -- The sums with no bound of depth, and the laws of the quota board.
-use Rattle.std.specs.Prelude.{◌≡◌, ℕ, zero, suc, ◌+◌, ◌<◌, ◌≤◌, min, Bool, true, false, cond, List, length, ◌==◌, refl}
-use Rattle.std.proofs.Common.{sym, ◌∙◌, ap, ⊎_elim, arith}
+use Rattle.std.specs.Prelude.{◌≡◌, ℕ, zero, suc, ◌+◌, ◌<◌, ◌≤◌, min, Bool, true, false, ◌&&◌, List, length, Some, None, Option, is_none, refl}
+use Rattle.std.proofs.Common.{sym, ◌∙◌, ap, arith}
+use Rattle.std.proofs.lemmas.Bool.{both_ways}
 use Rattle.std.proofs.lemmas.List.{get_or_past}
-use Rattle.std.proofs.lemmas.Bool.{eqb-true, cases_Bool, cond-false}
 use Rattle.rules.specs.declared.table.Contract.{Contract}
 use Rattle.rules.specs.Contents.{contract_at}
+use Rattle.matching.specs.Sets.{Set}
 use Rattle.matching.specs.Choices.{Lawful}
 use Rattle.ranking.specs.Rank.{above}
-use Rattle.quota.specs.declared.row.Row.{Row}
-use Rattle.quota.specs.Caps.{parent_of, cap_of, kids, filled, directly, F, quota, Earlier}
-use Rattle.quota.specs.Sums.{across_same}
 use Rattle.ranking.proofs.Orderings.{above_irrefl, above_trans}
+use Rattle.quota.specs.declared.row.Row.{Row}
+use Rattle.quota.specs.Caps.{parent_of, cap_of, kids, filled, directly, F, stopped_at, pair_of, quota, quota_reason, Earlier}
+use Rattle.quota.specs.Sums.{kids_same}
 use Rattle.quota.specs.Capped.{Caps, Fills, chosen-lawful}
 
-lazy : (b : Bool) (x : ℕ) → (elim b [ true ↦ x | false ↦ 0 ]) ≡ cond b x 0
-lazy true x = refl
-lazy false x = refl
+module _ (rows : List Row) (ea : Earlier rows) where
+  filled_suc : (o : ℕ → ℕ) (t v : ℕ) → filled rows o (suc t) v ≡ min (cap_of rows v) (kids (parent_of rows) (λ c. filled rows o t c) v + o v)
+  unfolding filled
+  filled_suc o t v = refl
 
-filled_suc : (rows : List Row) (o : ℕ → ℕ) (t v : ℕ) → filled rows o (suc t) v ≡ min (cap_of rows v) (kids rows (filled rows o t) v + o v)
-unfolding filled
-filled_suc rows o t v =
-    ap (λ s. min (cap_of rows v) (s + o v))
-    (across_same (λ c. elim (parent_of rows c == v) [ true ↦ filled rows o t c | false ↦ 0 ]) (λ c. cond (parent_of rows c == v) (filled rows o t c) 0)
-    (λ c l. lazy (parent_of rows c == v) (filled rows o t c)))
+  -- one turn more changes nothing once all groups below v have had theirs
+  stable : (o : ℕ → ℕ) (t v : ℕ) → v < 64 → 64 ≤ v + t → filled rows o (suc t) v ≡ filled rows o t v
+  stable o zero v l h = absurd (omega arith)
+  stable o (suc t) v l h =
+      filled_suc o (suc t) v
+      ∙ ap (λ s. min (cap_of rows v) (s + o v))
+      (kids_same (parent_of rows) ea (λ c. filled rows o (suc t) c) (λ c. filled rows o t c) v (λ c p a b. stable o t c b (omega arith)))
+      ∙ sym (filled_suc o t v)
 
-pub child : (rows : List Row) → Earlier rows → (c v : ℕ) → c < 64 → v < 64 → (parent_of rows c == v) ≡ true → v < c
-child rows ea c v i l e =
-    let p : parent_of rows c ≡ v = eqb-true _ _ e in
-    let q : parent_of rows c < c = ea c i (omega arith) in
-    omega arith
+  pub filled_is : (o : ℕ → ℕ) (v : ℕ) → v < 64 → filled rows o 64 v ≡ min (cap_of rows v) (kids (parent_of rows) (λ c. filled rows o 64 c) v + o v)
+  filled_is o v l = sym (stable o 64 v l (omega arith)) ∙ filled_suc o 64 v
 
--- only the groups below v count
-pub kids_same : (rows : List Row) → Earlier rows → (f g : ℕ → ℕ) (v : ℕ) → v < 64 → ((c : ℕ) → v < c → c < 64 → f c ≡ g c) → kids rows f v ≡ kids rows g v
-kids_same rows ea f g v l h = across_same (λ c. cond (parent_of rows c == v) (f c) 0) (λ c. cond (parent_of rows c == v) (g c) 0) same
-  where
-    same : (c : ℕ) → c < 64 → cond (parent_of rows c == v) (f c) 0 ≡ cond (parent_of rows c == v) (g c) 0
-    same c i = ⊎_elim (λ e. ap (λ x. cond (parent_of rows c == v) x 0) (h c (child rows ea c v i l e) i))
-        (λ e. cond-false _ _ _ e ∙ sym (cond-false _ _ _ e)) (cases_Bool (parent_of rows c == v))
-
--- one turn more changes nothing once all groups below v have had theirs
-stable : (rows : List Row) → Earlier rows → (o : ℕ → ℕ) (t v : ℕ) → v < 64 → 64 ≤ v + t → filled rows o (suc t) v ≡ filled rows o t v
-stable rows ea o zero v l h = absurd (omega arith)
-stable rows ea o (suc t) v l h =
-    filled_suc rows o (suc t) v
-    ∙ ap (λ s. min (cap_of rows v) (s + o v)) (kids_same rows ea (filled rows o (suc t)) (filled rows o t) v l (λ c a b. stable rows ea o t c b (omega arith)))
-    ∙ sym (filled_suc rows o t v)
-
-pub filled_is : (rows : List Row) → Earlier rows → (o : ℕ → ℕ) (v : ℕ) → v < 64 → filled rows o 64 v ≡ min (cap_of rows v) (kids rows (filled rows o 64) v + o v)
-filled_is rows ea o v l = sym (stable rows ea o 64 v l (omega arith)) ∙ filled_suc rows o 64 v
+-- past the 64 rows there is no place
+pub no_cap : (rows : List Row) → length rows ≡ 64 → (v : ℕ) → 64 ≤ v → cap_of rows v ≡ 0
+no_cap rows len v l = ap (λ r. r.cap) (get_or_past rows v _ (omega arith))
 
 caps : (rows : List Row) → Earlier rows → length rows ≡ 64 → List Contract → Caps
 caps rows ea len cs = record {
@@ -57,7 +43,7 @@ caps rows ea len cs = record {
   grp = λ k. (contract_at cs k).group;
   ord = above cs;
   earlier = ea;
-  none = λ v h. ap (λ r. r.cap) (get_or_past rows v _ (omega arith));
+  none = no_cap rows len;
   irrefl = above_irrefl cs;
   trans = above_trans cs;
 }
@@ -69,3 +55,11 @@ fills rows ea len cs v X k l = filled_is rows ea (directly cs X k) v l
 pub quota-lawful : (rows : List Row) → Earlier rows → length rows ≡ 64 → (cs : List Contract) → Lawful (length cs) (quota rows cs)
 unfolding caps
 quota-lawful rows ea len cs = chosen-lawful (caps rows ea len cs) (λ v X k. F rows cs v X k) (fills rows ea len cs)
+
+coded : (b : Bool) (s : Option ℕ) → b ≡ true → (b && is_none s) ≡ false → 1 < (pair_of s).0
+coded b None x e = absurd (both_ways _ e (ap (λ c. c && true) x))
+coded b (Some v) x e = omega arith
+
+-- the code of a reason is above 1
+pub reason-coded : (rows : List Row) (cs : List Contract) (X : Set) (k : ℕ) → X k ≡ true → quota rows cs X k ≡ false → 1 < (quota_reason rows cs X k).0
+reason-coded rows cs X k x e = coded (X k) (stopped_at rows cs X k) x e

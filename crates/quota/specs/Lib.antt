@@ -2,7 +2,6 @@ pub mod Caps
 pub mod Rule
 pub mod Climb
 pub mod Walk
-pub mod Answer
 pub mod Laws
 pub mod Sums
 pub mod Capped

@@ -1,8 +1,10 @@
 -- Sums over the 64 groups.
-use Rattle.std.specs.Prelude.{◌≡◌, ℕ, ◌+◌, ◌<◌, ◌≤◌, ◌≢◌}
+use Rattle.std.specs.Prelude.{◌≡◌, ℕ, ◌+◌, ◌<◌, ◌≤◌, true, false, Bool, cond, Some, None, Option, ◌≢◌, refl}
+use Rattle.std.proofs.Common.{ap, arith}
+use Rattle.std.proofs.lemmas.Bool.{false≢true, eqb-true}
 use Rattle.moves.proofs.Bags.{total_same}
 use Rattle.matching.proofs.Sums.{total_le, total_bump}
-use Rattle.quota.specs.Caps.{across}
+use Rattle.quota.specs.Caps.{across, is_parent, kids}
 
 pub across_le : (g h : ℕ → ℕ) → ((c : ℕ) → c < 64 → g c ≤ h c) → across g ≤ across h
 unfolding across
@@ -19,3 +21,25 @@ across_bump g h z x l e o = total_bump 64 g h z x l e o
 pub across_none : (g : ℕ → ℕ) → ((c : ℕ) → c < 64 → g c ≡ 0) → across g ≡ 0
 unfolding across
 across_none g h = total_same 64 g (λ c. 0) h
+
+pub is_parent-true : (o : Option ℕ) (v : ℕ) → is_parent o v ≡ true → o ≡ Some v
+is_parent-true None v e = absurd (false≢true e)
+is_parent-true (Some p) v e = ap Some (eqb-true p v e)
+
+cond_le : (b : Bool) (x y : ℕ) → (b ≡ true → x ≤ y) → cond b x 0 ≤ cond b y 0
+cond_le true x y h = h refl
+cond_le false x y h = omega arith
+
+cond_same : (b : Bool) (x y : ℕ) → (b ≡ true → x ≡ y) → cond b x 0 ≡ cond b y 0
+cond_same true x y h = h refl
+cond_same false x y h = refl
+
+-- only the groups whose parent is v count, and a parent is an earlier group
+module _ (par : ℕ → Option ℕ) (ea : (v p : ℕ) → par v ≡ Some p → p < v) (f g : ℕ → ℕ) (v : ℕ) where
+  pub kids_le : ((c : ℕ) → v < c → c < 64 → f c ≤ g c) → kids par f v ≤ kids par g v
+  kids_le h = across_le (λ c. cond (is_parent (par c) v) (f c) 0) (λ c. cond (is_parent (par c) v) (g c) 0)
+      (λ c l. cond_le (is_parent (par c) v) (f c) (g c) (λ e. h c (ea c v (is_parent-true (par c) v e)) l))
+
+  pub kids_same : ((c : ℕ) → par c ≡ Some v → v < c → c < 64 → f c ≡ g c) → kids par f v ≡ kids par g v
+  kids_same h = across_same (λ c. cond (is_parent (par c) v) (f c) 0) (λ c. cond (is_parent (par c) v) (g c) 0)
+      (λ c l. cond_same (is_parent (par c) v) (f c) (g c) (λ e. let p = is_parent-true (par c) v e in h c p (ea c v p) l))

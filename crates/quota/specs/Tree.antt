@@ -1,14 +1,14 @@
 -- The way up a tree of 64 groups, in which a parent is an earlier group.
-use Rattle.std.specs.Prelude.{◌≡◌, ℕ, zero, suc, ◌+◌, ◌<◌, ◌≤◌, Bool, true, false, cond, ◌&&◌, Some, None, nat_lt, refl}
-use Rattle.std.proofs.Common.{sym, ◌∙◌, ap, ⊎_elim, arith}
-use Rattle.std.proofs.lemmas.Bool.{and_parts, and_from, and_left, and_cases, cases_Bool, both_ways, ltb-true, lt-ltb, le-ltb, cond-true, cond-false}
-use Rattle.quota.specs.Caps.{upwards, first_full}
+use Rattle.std.specs.Prelude.{◌≡◌, ℕ, zero, suc, ◌+◌, ◌<◌, ◌≤◌, Bool, true, false, Some, None, Option, is_none, option_and_then, ◌≢◌, ◌⊎◌, refl}
+use Rattle.std.proofs.Common.{sym, ◌∙◌, ap, subst, inl, inr, ⊎_elim, arith}
+use Rattle.std.proofs.lemmas.Bool.{cases_Bool, cases_lt, both_ways, cond-true, cond-false}
+use Rattle.std.proofs.lemmas.Option.{none-some, same_Some}
+use Rattle.quota.specs.Caps.{first_full, stop, upwards}
 use Rattle.quota.specs.Rule.{Up, here, there}
-use Rattle.quota.specs.Climb.{stop}
 
-pub up_trans : {par : ℕ → ℕ} {u v w : ℕ} → Up par u v → Up par v w → Up par u w
+pub up_trans : {par : ℕ → Option ℕ} {u v w : ℕ} → Up par u v → Up par v w → Up par u w
 up_trans here b = b
-up_trans (there l a) b = there l (up_trans a b)
+up_trans (there e a) b = there e (up_trans a b)
 
 -- down from the last group
 pub down : (P : ℕ → Type 0) → ((v : ℕ) → v < 64 → ((c : ℕ) → v < c → c < 64 → P c) → P v) → (v : ℕ) → v < 64 → P v
@@ -18,90 +18,93 @@ down P step v l = go 64 v l (omega arith)
     go zero v l h = absurd (omega arith)
     go (suc t) v l h = step v l (λ c a b. go t c b (omega arith))
 
-lazy : (b : Bool) (x : Bool) → (elim b [ true ↦ x | false ↦ true ]) ≡ cond b x true
-lazy true x = refl
-lazy false x = refl
+cases_Option : (o : Option ℕ) → (o ≡ None) ⊎ ((p : ℕ) × (o ≡ Some p))
+cases_Option None = inl refl
+cases_Option (Some p) = inr (p, refl)
 
-pub upwards_suc : (par : ℕ → ℕ) (ok : ℕ → Bool) (t v : ℕ) → upwards par ok (suc t) v ≡ (ok v && cond (nat_lt (par v) 64) (upwards par ok t (par v)) true)
-unfolding upwards
-upwards_suc par ok t v = ap (λ q. ok v && q) (lazy (nat_lt (par v) 64) (upwards par ok t (par v)))
+-- u is the first group from v upwards that fails
+pub record IsFirst (par : ℕ → Option ℕ) (ok : ℕ → Bool) (v u : ℕ) : Type 0 where
+  pub up : Up par v u
+  pub fails : ok u ≡ false
+  pub before : (w : ℕ) → Up par v w → Up par w u → (w ≢ u) → ok w ≡ true
 
-pub upwards_none : (par : ℕ → ℕ) (ok : ℕ → Bool) (v : ℕ) → upwards par ok 0 v ≡ true
-unfolding upwards
-upwards_none par ok v = refl
+module _ (par : ℕ → Option ℕ) (ok : ℕ → Bool) (ea : (v p : ℕ) → par v ≡ Some p → p < v) where
+  no_depth : (v : ℕ) → first_full par ok 0 v ≡ None
+  unfolding first_full
+  no_depth v = refl
 
-lazy_full : (b : Bool) (x y : ℕ) → (elim b [ true ↦ x | false ↦ y ]) ≡ cond b x y
-lazy_full true x y = refl
-lazy_full false x y = refl
+  fails-here : (t v : ℕ) → ok v ≡ false → first_full par ok (suc t) v ≡ Some v
+  unfolding first_full
+  fails-here t v o = cond-false _ _ _ o
 
-pub first_full_suc : (par : ℕ → ℕ) (ok : ℕ → Bool) (t v : ℕ) → first_full par ok (suc t) v ≡ cond (ok v) (first_full par ok t (par v)) v
-unfolding first_full
-first_full_suc par ok t v = lazy_full (ok v) (first_full par ok t (par v)) v
+  at_top : (t v : ℕ) → ok v ≡ true → par v ≡ None → first_full par ok (suc t) v ≡ None
+  unfolding first_full
+  at_top t v o e = cond-true _ _ _ o ∙ ap (λ q. option_and_then (λ p. first_full par ok t p) q) e
 
--- what holds upwards holds of each group above
-pub upwards_all : (par : ℕ → ℕ) (ok : ℕ → Bool) → ((v : ℕ) → v < 64 → par v < 64 → par v < v)
-    → (t v : ℕ) → v < 64 → v < t → upwards par ok t v ≡ true → (w : ℕ) → Up par v w → ok w ≡ true
-upwards_all par ok ea zero v l h e w u = absurd (omega arith)
-upwards_all par ok ea (suc t) v l h e w here = (and_parts _ _ (sym (upwards_suc par ok t v) ∙ e)).0
-upwards_all par ok ea (suc t) v l h e w (there p u) =
-    let q : par v < v = ea v l p in
-    upwards_all par ok ea t (par v) p (omega arith)
-    (sym (cond-true (nat_lt (par v) 64) (upwards par ok t (par v)) true (lt-ltb (par v) 64 p)) ∙ (and_parts _ _ (sym (upwards_suc par ok t v) ∙ e)).1) w u
+  one_up : (t v p : ℕ) → ok v ≡ true → par v ≡ Some p → first_full par ok (suc t) v ≡ first_full par ok t p
+  unfolding first_full
+  one_up t v p o e = cond-true _ _ _ o ∙ ap (λ q. option_and_then (λ p. first_full par ok t p) q) e
 
-pub upwards_from : (par : ℕ → ℕ) (ok : ℕ → Bool) (t v : ℕ) → ((w : ℕ) → Up par v w → ok w ≡ true) → upwards par ok t v ≡ true
-upwards_from par ok zero v h = upwards_none par ok v
-upwards_from par ok (suc t) v h =
-    upwards_suc par ok t v ∙ and_from _ _ (h v here)
-    (⊎_elim (λ e. cond-true _ _ _ e ∙ upwards_from par ok t (par v) (λ w u. h w (there (ltb-true _ _ e) u))) (λ e. cond-false _ _ _ e) (cases_Bool (nat_lt (par v) 64)))
+  -- nobody fails: all groups above pass
+  none_all : (t v : ℕ) → v < t → first_full par ok t v ≡ None → (w : ℕ) → Up par v w → ok w ≡ true
+  none_all zero v h n w u = absurd (omega arith)
+  none_all (suc t) v h n w here = ⊎_elim (λ o. o) (λ o. absurd (none-some v (sym n ∙ fails-here t v o))) (cases_Bool (ok v))
+  none_all (suc t) v h n w (there {p} e u) = ⊎_elim
+      (λ o. let q : p < v = ea v p e in none_all t p (omega arith) (sym (one_up t v p o e) ∙ n) w u)
+      (λ o. absurd (none-some v (sym n ∙ fails-here t v o))) (cases_Bool (ok v))
 
-pub upwards_fails : (par : ℕ → ℕ) (ok : ℕ → Bool) (t v : ℕ) → upwards par ok t v ≡ false → (w : ℕ) × Up par v w × (ok w ≡ false)
-upwards_fails par ok zero v e = absurd (both_ways _ e (upwards_none par ok v))
-upwards_fails par ok (suc t) v e =
-    ⊎_elim (λ o. (v, here, o))
-    (λ o. ⊎_elim (λ l. let r = upwards_fails par ok t (par v) (sym (cond-true _ _ _ l) ∙ o) in (r.0, there (ltb-true _ _ l) r.1, r.2))
-    (λ l. absurd (both_ways _ (sym (cond-false (nat_lt (par v) 64) (upwards par ok t (par v)) true l) ∙ o) refl)) (cases_Bool (nat_lt (par v) 64)))
-    (and_cases _ _ (sym (upwards_suc par ok t v) ∙ e))
+  none_from : (t v : ℕ) → ((w : ℕ) → Up par v w → ok w ≡ true) → first_full par ok t v ≡ None
+  none_from zero v h = no_depth v
+  none_from (suc t) v h = ⊎_elim (λ e. at_top t v (h v here) e)
+      (λ q. one_up t v q.0 (h v here) q.1 ∙ none_from t q.0 (λ w u. h w (there q.1 u))) (cases_Option (par v))
 
--- with as much fuel as there are groups, one turn more changes nothing
-module _ (par : ℕ → ℕ) (ok : ℕ → Bool) (ea : (v : ℕ) → v < 64 → par v < 64 → par v < v) where
-  enough : (t v : ℕ) → v < 64 → v < t → upwards par ok (suc t) v ≡ upwards par ok t v
-  enough zero v l h = absurd (omega arith)
-  enough (suc t) v l h = upwards_suc par ok (suc t) v ∙ ap (λ q. ok v && q) (rest (λ p. enough t (par v) p (let q = ea v l p in omega arith))) ∙ sym (upwards_suc par ok t v)
-    where
-      rest : (par v < 64 → upwards par ok (suc t) (par v) ≡ upwards par ok t (par v))
-          → cond (nat_lt (par v) 64) (upwards par ok (suc t) (par v)) true ≡ cond (nat_lt (par v) 64) (upwards par ok t (par v)) true
-      rest ih = ⊎_elim (λ e. ap (λ x. cond (nat_lt (par v) 64) x true) (ih (ltb-true _ _ e))) (λ e. cond-false _ _ _ e ∙ sym (cond-false _ _ _ e)) (cases_Bool (nat_lt (par v) 64))
+  up_le : (v w : ℕ) → Up par v w → w ≤ v
+  up_le v w here = omega arith
+  up_le v w (there {p} e u) = let a : w ≤ p = up_le p w u in let b : p < v = ea v p e in omega arith
 
-  -- a stop upwards is met with any fuel that suffices, and it is the same
-  enough_full : (t v : ℕ) → v < 64 → v < t → upwards par ok t v ≡ false → first_full par ok (suc t) v ≡ first_full par ok t v
-  enough_full zero v l h e = absurd (omega arith)
-  enough_full (suc t) v l h e =
-      first_full_suc par ok (suc t) v
-      ∙ ⊎_elim (λ o. passed o (λ p f. enough_full t (par v) p (let q = ea v l p in omega arith) f)) (λ o. cond-false _ _ _ o ∙ sym (cond-false _ _ _ o)) (cases_Bool (ok v))
-      ∙ sym (first_full_suc par ok t v)
-    where
-      passed : ok v ≡ true → (par v < 64 → upwards par ok t (par v) ≡ false → first_full par ok (suc t) (par v) ≡ first_full par ok t (par v))
-          → cond (ok v) (first_full par ok (suc t) (par v)) v ≡ cond (ok v) (first_full par ok t (par v)) v
-      passed o ih =
-          ap (λ x. cond (ok v) x v)
-          (⊎_elim (λ n. absurd (both_ways _ n o))
-          (λ n. ⊎_elim (λ p. ih (ltb-true _ _ p) (sym (cond-true _ _ _ p) ∙ n)) (λ p. absurd (both_ways _ (sym (cond-false (nat_lt (par v) 64) (upwards par ok t (par v)) true p) ∙ n) refl)) (cases_Bool (nat_lt (par v) 64)))
-          (and_cases _ _ (sym (upwards_suc par ok t v) ∙ e)))
+  first-here : (v : ℕ) → ok v ≡ false → IsFirst par ok v v
+  first-here v o = record { up = here; fails = o; before = λ w a b ne. absurd (ne (let c = up_le v w a in let d = up_le w v b in omega arith)) }
+
+  passed : (v q u : ℕ) → ok v ≡ true → par v ≡ Some q → ((w : ℕ) → Up par q w → Up par w u → (w ≢ u) → ok w ≡ true)
+      → (w : ℕ) → Up par v w → Up par w u → (w ≢ u) → ok w ≡ true
+  passed v q u o e h w here b ne = o
+  passed v q u o e h w (there {p} d a) b ne =
+      let P : ℕ → Type 0 = λ j. Up par j w in
+      h w (subst P (same_Some p q (sym d ∙ e)) a) b ne
+
+  found : (t v u : ℕ) → first_full par ok t v ≡ Some u → IsFirst par ok v u
+  found zero v u s = absurd (none-some u (sym (no_depth v) ∙ s))
+  found (suc t) v u s = ⊎_elim
+      (λ o. ⊎_elim (λ e. absurd (none-some u (sym (at_top t v o e) ∙ s)))
+      (λ q. let f = found t q.0 u (sym (one_up t v q.0 o q.1) ∙ s) in
+      record { up = there q.1 f.up; fails = f.fails; before = passed v q.0 u o q.1 f.before }) (cases_Option (par v)))
+      (λ o. let P : ℕ → Type 0 = λ j. IsFirst par ok v j in subst P (same_Some v u (sym (fails-here t v o) ∙ s)) (first-here v o)) (cases_Bool (ok v))
+
+  -- with as much depth as there are groups, one turn more changes nothing
+  enough : (t v : ℕ) → v < t → first_full par ok (suc t) v ≡ first_full par ok t v
+  enough zero v h = absurd (omega arith)
+  enough (suc t) v h = ⊎_elim
+      (λ o. ⊎_elim (λ e. at_top (suc t) v o e ∙ sym (at_top t v o e))
+      (λ q. one_up (suc t) v q.0 o q.1 ∙ enough t q.0 (let a : q.0 < v = ea v q.0 q.1 in omega arith) ∙ sym (one_up t v q.0 o q.1)) (cases_Option (par v)))
+      (λ o. fails-here (suc t) v o ∙ sym (fails-here t v o)) (cases_Bool (ok v))
 
   pub stop_full : (v : ℕ) → ok v ≡ false → stop par ok v ≡ Some v
-  stop_full v o =
-      cond-false _ _ _ (upwards_suc par ok 63 v ∙ and_left _ _ o) ∙ ap Some (first_full_suc par ok 63 v ∙ cond-false _ _ _ o)
+  stop_full v o = fails-here 63 v o
 
-  pub stop_top : (v : ℕ) → ok v ≡ true → 64 ≤ par v → stop par ok v ≡ None
-  stop_top v o p = cond-true _ _ _ (upwards_suc par ok 63 v ∙ and_from _ _ o (cond-false _ _ _ (le-ltb _ _ p)))
+  pub stop_top : (v : ℕ) → ok v ≡ true → par v ≡ None → stop par ok v ≡ None
+  stop_top v o e = at_top 63 v o e
 
-  pub stop_up : (v : ℕ) → v < 64 → ok v ≡ true → par v < 64 → stop par ok v ≡ stop par ok (par v)
-  stop_up v l o p =
-      let q : par v < v = ea v l p in
-      let a : upwards par ok 64 v ≡ upwards par ok 63 (par v) = upwards_suc par ok 63 v ∙ ap (λ b. b && cond (nat_lt (par v) 64) (upwards par ok 63 (par v)) true) o ∙ cond-true _ _ _ (lt-ltb _ _ p) in
-      let b : upwards par ok 64 (par v) ≡ upwards par ok 63 (par v) = enough 63 (par v) p (omega arith) in
-      let c : first_full par ok 64 v ≡ first_full par ok 63 (par v) = first_full_suc par ok 63 v ∙ cond-true _ _ _ o in
-      ⊎_elim
-      (λ t. cond-true _ _ _ (a ∙ t) ∙ sym (cond-true _ _ _ (b ∙ t)))
-      (λ f. cond-false _ _ _ (a ∙ f) ∙ ap Some (c ∙ sym (enough_full 63 (par v) p (omega arith) f)) ∙ sym (cond-false _ _ _ (b ∙ f)))
-      (cases_Bool (upwards par ok 63 (par v)))
+  pub stop_up : (v p : ℕ) → v < 64 → ok v ≡ true → par v ≡ Some p → stop par ok v ≡ stop par ok p
+  stop_up v p l o e = one_up 63 v p o e ∙ sym (enough 63 p (let a : p < v = ea v p e in omega arith))
+
+  -- what holds upwards holds of each group above, where only the 64 groups can pass
+  pub upwards_all : ((v : ℕ) → 64 ≤ v → ok v ≡ false) → (v : ℕ) → upwards par ok v ≡ true → (w : ℕ) → Up par v w → ok w ≡ true
+  upwards_all closed v h w u = ⊎_elim
+      (λ n. ⊎_elim (λ l. none_all 64 v l n w u) (λ l. absurd (none-some v (sym n ∙ stop_full v (closed v l)))) (cases_lt v 64))
+      (λ q. absurd (both_ways _ (ap (λ s. is_none s) q.1) h)) (cases_Option (stop par ok v))
+
+  pub upwards_from : (v : ℕ) → ((w : ℕ) → Up par v w → ok w ≡ true) → upwards par ok v ≡ true
+  upwards_from v h = ap (λ s. is_none s) (none_from 64 v h)
+
+  pub upwards_fails : (v : ℕ) → upwards par ok v ≡ false → (u : ℕ) × (stop par ok v ≡ Some u) × IsFirst par ok v u
+  upwards_fails v h = ⊎_elim (λ n. absurd (both_ways _ h (ap (λ s. is_none s) n))) (λ q. (q.0, q.1, found 64 v q.0 q.1)) (cases_Option (stop par ok v))

@@ -1,17 +1,19 @@
 -- What a row says: who stands in it, in which order, and how many stand ahead of a place.
-use Rattle.std.proofs.Common.{◌≡◌, ℕ, zero, suc, ◌+◌, ◌<◌, ◌≤◌, Bool, true, false, cond, ◌&&◌, ◌||◌, ltb, List, [], ◌∷◌, ◌++◌, length, get_or, take, drop, count_by, sym, refl, ap, ◌∙◌, subst, ⊎_elim, arith}
+use Rattle.std.proofs.Common.{◌≡◌, ℕ, zero, suc, ◌+◌, ◌<◌, ◌≤◌, Bool, true, false, cond, ◌&&◌, List, [], ◌∷◌, ◌++◌, length, get_or, take, drop, count_by, sym, refl, ap, ◌∙◌, subst, ⊎_elim, arith}
 use Rattle.std.proofs.ByRecursion.{All-append, All-weaker, All-get_or, All-from_get_or, has_append_left, has_push, all_shuffled, has_shuffled}
 use Rattle.std.proofs.lemmas.List.{get_or-take, get_or-drop, length-take-le, length-drop}
 use Rattle.std.proofs.lemmas.List.Sums.{sum_by-cons, sum_by-take-drop}
 use Rattle.std.proofs.lemmas.List.Sorted.{sum_by-IsPermutation}
-use Rattle.std.proofs.lemmas.Bool.{and_parts, and_right, both_ways, cases_eq, or_cases, ltb-true, le-ltb, eqb-true, eq-eqb}
+use Rattle.std.proofs.lemmas.Bool.Decides.{nat_tests}
+use Rattle.std.proofs.lemmas.Bool.{and_right, both_ways, cases_eq, eqb-true, eq-eqb}
 use Rattle.std.specs.List.{ContainsAt as Has, AllByRecursion as All}
 use Rattle.rules.specs.declared.table.Contract.{Contract}
+use Rattle.rules.specs.declared.table.Rule.{Rule}
+use Rattle.rules.specs.declared.table.Rule.TheVariants.{Rank}
 use Rattle.rules.specs.Contents.{contract_at}
 use Rattle.moves.specs.Bags.{passing}
 use Rattle.moves.proofs.Bags.{total_same}
 use Rattle.matching.specs.Sets.{Set, rising}
-use Rattle.matching.proofs.Sets.{and_true}
 use Rattle.ranking.specs.Rank.{together, prefers, above}
 use Rattle.ranking.specs.Rows.{precedes, Ordered}
 use Rattle.ranking.proofs.Orderings.{prefers_irrefl, prefers_trans}
@@ -52,52 +54,31 @@ count_by_none p [] h = refl
 count_by_none p (x ∷ xs) h =
     sum_by-cons (λ y. cond (p y) 1 0) x xs ∙ (λ i. cond (h.0 i) 1 0 + count_by_none p xs h.1 i)
 
-count_all : (xs : List ℕ) → count_by (λ _. true) xs ≡ length xs
-count_all [] = refl
-count_all (x ∷ xs) = omega (arith, sum_by-cons (λ (y : ℕ). 1) x xs, count_all xs)
-
 add_zero : (n : ℕ) → n + 0 ≡ n
 add_zero n = omega arith
 
 nested : (a b : Bool) → ◌≡◌ {A = ℕ} (cond a (cond b 1 0) 0) (cond (a && b) 1 0)
-nested true b = refl
-nested false b = refl
+nested a b = grind arith
 
 -- ---- who comes before whom
 
-pub precedes_itself : (rule : ℕ) (cs : List Contract) (k : ℕ) → precedes rule cs k k ≡ false
-precedes_itself rule cs k =
-    (λ i. le-ltb (contract_at cs k).dredger (contract_at cs k).dredger (omega arith) i
-    || (together cs k k && prefers_irrefl rule (contract_at cs k) k i))
-    ∙ and_right (together cs k k) false refl
-
 -- within one dredger it is the rule that says who comes first
-pub precedes_by_rule : (rule : ℕ) (cs : List Contract) (i j : ℕ) → precedes rule cs i j ≡ true → together cs i j ≡ true
+pub precedes_by_rule : (rule : Rule) (cs : List Contract) (i j : ℕ) → precedes rule cs i j ≡ true → together cs i j ≡ true
     → prefers rule (contract_at cs i) (contract_at cs j) i j ≡ true
-precedes_by_rule rule cs i j h t = ⊎_elim
-    (λ l. absurd (omega (arith, ltb-true _ _ l, eqb-true _ _ t)))
-    (λ e. (and_parts _ _ e).1)
-    (or_cases (ltb (contract_at cs i).dredger (contract_at cs j).dredger) _ h)
+precedes_by_rule rule cs i j h t = grind (arith, nat_tests)
 
-pub precedes_dredgers : (rule : ℕ) (cs : List Contract) (i j : ℕ) → precedes rule cs i j ≡ true → (contract_at cs i).dredger ≤ (contract_at cs j).dredger
-precedes_dredgers rule cs i j h = ⊎_elim
-    (λ l. omega (arith, ltb-true (contract_at cs i).dredger (contract_at cs j).dredger l))
-    (λ e. omega (arith, eqb-true (contract_at cs i).dredger (contract_at cs j).dredger (and_parts (together cs i j) _ e).0))
-    (or_cases (ltb (contract_at cs i).dredger (contract_at cs j).dredger) _ h)
+pub precedes_dredgers : (rule : Rule) (cs : List Contract) (i j : ℕ) → precedes rule cs i j ≡ true → (contract_at cs i).dredger ≤ (contract_at cs j).dredger
+precedes_dredgers rule cs i j h = grind (arith, nat_tests)
 
-pub together_back : (cs : List Contract) (i j : ℕ) → together cs i j ≡ true → together cs j i ≡ true
+together_back : (cs : List Contract) (i j : ℕ) → together cs i j ≡ true → together cs j i ≡ true
 together_back cs i j h = eq-eqb _ _ (sym (eqb-true _ _ h))
 
 -- whoever precedes k and is of its dredger goes ahead of it, and no one else
-ahead_of : (rule : ℕ) (cs : List Contract) (q : ℕ → Bool) (j k : ℕ) → precedes rule cs j k ≡ true
+ahead_of : (rule : Rule) (cs : List Contract) (q : ℕ → Bool) (j k : ℕ) → precedes rule cs j k ≡ true
     → (q j && (together cs j k && prefers rule (contract_at cs j) (contract_at cs k) j k)) ≡ (q j && together cs j k)
-ahead_of rule cs q j k h = ap (λ b. q j && b) (go (together cs j k) _ (precedes_by_rule rule cs j k h))
-  where
-    go : (t p : Bool) → (t ≡ true → p ≡ true) → (t && p) ≡ t
-    go true p f = f refl
-    go false p f = refl
+ahead_of rule cs q j k h = grind (arith, nat_tests)
 
-not_behind : (rule : ℕ) (cs : List Contract) (q : ℕ → Bool) (j k : ℕ) → precedes rule cs k j ≡ true
+not_behind : (rule : Rule) (cs : List Contract) (q : ℕ → Bool) (j k : ℕ) → precedes rule cs k j ≡ true
     → (q j && (together cs j k && prefers rule (contract_at cs j) (contract_at cs k) j k)) ≡ false
 not_behind rule cs q j k h = and_right (q j) _ (go (together cs j k) _ (λ t p.
     both_ways (prefers rule (contract_at cs j) (contract_at cs j) j j) (prefers_irrefl rule (contract_at cs j) j)
@@ -108,11 +89,11 @@ not_behind rule cs q j k h = and_right (q j) _ (go (together cs j k) _ (λ t p.
     go true false f = refl
     go false p f = refl
 
-not_itself : (rule : ℕ) (cs : List Contract) (q : ℕ → Bool) (k : ℕ)
+not_itself : (rule : Rule) (cs : List Contract) (q : ℕ → Bool) (k : ℕ)
     → (q k && (together cs k k && prefers rule (contract_at cs k) (contract_at cs k) k k)) ≡ false
-not_itself rule cs q k = and_right (q k) _ (and_right (together cs k k) _ (prefers_irrefl rule (contract_at cs k) k))
+not_itself rule cs q k = grind (arith, nat_tests)
 
-module _ {rule : ℕ} {cs : List Contract} {X : Set} {ns : List ℕ} (o : Ordered rule cs X ns) where
+module _ {rule : Rule} {cs : List Contract} {X : Set} {ns : List ℕ} (o : Ordered rule cs X ns) where
   pub lined_in : (i : ℕ) → i < length ns → (X (get_or ns i 0) ≡ true) × (get_or ns i 0 < length cs)
   lined_in i l =
       All-get_or (λ k. (X k ≡ true) × (k < length cs)) ns i 0 l
@@ -123,29 +104,20 @@ module _ {rule : ℕ} {cs : List Contract} {X : Set} {ns : List ℕ} (o : Ordere
       let h = has_shuffled (rising (length cs) X) ns k o.same (rising_has (length cs) X k l x) in
       (h.0, h.1, h.2 0)
 
-  pub lined_apart : (i j : ℕ) → i < j → j < length ns → get_or ns i 0 ≡ get_or ns j 0 → ⊥
-  lined_apart i j l m e = both_ways (precedes rule cs (get_or ns i 0) (get_or ns j 0))
-      (ap (λ k. precedes rule cs (get_or ns i 0) k) (sym e) ∙ precedes_itself rule cs (get_or ns i 0)) (o.sorted i j l m)
-
   pub lined_dredgers : (i j : ℕ) → i ≤ j → j < length ns → (contract_at cs (get_or ns i 0)).dredger ≤ (contract_at cs (get_or ns j 0)).dredger
   lined_dredgers i j l m = ⊎_elim
       (λ (e : i ≡ j). subst (λ n. (contract_at cs (get_or ns i 0)).dredger ≤ (contract_at cs (get_or ns n 0)).dredger) e (omega arith))
       (λ (ne : i ≡ j → ⊥). precedes_dredgers rule cs (get_or ns i 0) (get_or ns j 0) (o.sorted i j (omega arith) m))
       (cases_eq i j)
 
-  pub lined_count : (p : ℕ → Bool) → passing (length cs) (λ j. X j && p j) ≡ count_by p ns
+  lined_count : (p : ℕ → Bool) → passing (length cs) (λ j. X j && p j) ≡ count_by p ns
   lined_count p =
       total_same (length cs) (λ j. cond (X j && p j) 1 0) (λ j. cond (X j) (cond (p j) 1 0) 0) (λ j l. sym (nested (X j) (p j)))
       ∙ sym (rising_sum (λ j. cond (p j) 1 0) (length cs) X)
       ∙ sym (sum_by-IsPermutation (λ j. cond (p j) 1 0) (rising (length cs) X) ns o.same)
 
-  pub lined_length : passing (length cs) X ≡ length ns
-  lined_length =
-      total_same (length cs) (λ j. cond (X j) 1 0) (λ j. cond (X j && true) 1 0) (λ j l. ap (λ b. cond b 1 0) (sym (and_true (X j))))
-      ∙ lined_count (λ _. true) ∙ count_all ns
-
   -- as many of X go ahead of the contract at a place, and pass a test, as stand before that place, are of its dredger and pass the test
-  pub lined_before : (i : ℕ) (q : ℕ → Bool) → i < length ns
+  lined_before : (i : ℕ) (q : ℕ → Bool) → i < length ns
       → passing (length cs) (λ j. X j && (q j && (together cs j (get_or ns i 0) && prefers rule (contract_at cs j) (contract_at cs (get_or ns i 0)) j (get_or ns i 0))))
       ≡ count_by (λ j. q j && together cs j (get_or ns i 0)) (take i ns)
   lined_before i q l =
@@ -176,6 +148,6 @@ module _ {rule : ℕ} {cs : List Contract} {X : Set} {ns : List ℕ} (o : Ordere
           subst (λ j. p j ≡ false) (sym (get_or-drop i ns a 0)) (behind a (omega (arith, m, length-drop i ns))))
 
 -- the same by rank
-pub lined-ahead : {cs : List Contract} {X : Set} {ns : List ℕ} (o : Ordered 0 cs X ns) (i : ℕ) (q : ℕ → Bool) → i < length ns
+pub lined-ahead : {cs : List Contract} {X : Set} {ns : List ℕ} (o : Ordered Rank cs X ns) (i : ℕ) (q : ℕ → Bool) → i < length ns
     → passing (length cs) (λ j. X j && (q j && above cs j (get_or ns i 0))) ≡ count_by (λ j. q j && together cs j (get_or ns i 0)) (take i ns)
 lined-ahead o i q l = lined_before o i q l

@@ -1,4 +1,3 @@
 pub mod Keys
 pub mod Rank
 pub mod Rows
-pub mod Total

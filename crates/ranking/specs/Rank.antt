@@ -1,6 +1,8 @@
 -- In which order a dredger's contracts come: by rank, and by the two other rules that a seat may have.
-use Rattle.std.specs.Prelude.{◌≡◌, ℕ, Bool, true, false, cond, ◌&&◌, ◌||◌, List, ◌==◌, ◌≢◌, nat_lt}
+use Rattle.std.specs.Prelude.{◌≡◌, ℕ, Bool, true, false, ◌&&◌, ◌||◌, List, ◌==◌, ◌≢◌, nat_lt}
 use Rattle.rules.specs.declared.table.Contract.{Contract}
+use Rattle.rules.specs.declared.table.Rule.{Rule}
+use Rattle.rules.specs.declared.table.Rule.TheVariants.{Rank, Lot, Term}
 use Rattle.rules.specs.Contents.{contract_at}
 
 -- more points; on equal points the lower lot, then the lower number
@@ -25,9 +27,11 @@ lower_lot a b i j = nat_lt a.lot b.lot || (a.lot == b.lot && nat_lt i j)
 abbrev pub lower_term : Contract → Contract → ℕ → ℕ → Bool
 lower_term a b i j = nat_lt a.term b.term || (a.term == b.term && better a b i j)
 
--- contract a, number i, comes before contract b, number j, by a rule: 0 goes by rank, 1 by lot, 2 by term
-abbrev pub prefers : ℕ → Contract → Contract → ℕ → ℕ → Bool
-prefers rule a b i j = cond (rule == 1) (lower_lot a b i j) (cond (rule == 2) (lower_term a b i j) (better a b i j))
+-- contract a, number i, comes before contract b, number j, by a rule
+abbrev pub prefers : Rule → Contract → Contract → ℕ → ℕ → Bool
+prefers Rank = better
+prefers Lot = lower_lot
+prefers Term = lower_term
 
 -- what every rule is: a strict order in which any two contracts compare
 pub record Orders (before : Contract → Contract → ℕ → ℕ → Bool) : Type 0 where
@@ -36,7 +40,7 @@ pub record Orders (before : Contract → Contract → ℕ → ℕ → Bool) : Ty
   pub total : (a b : Contract) (i j : ℕ) → (i ≢ j) → before a b i j ≡ false → before b a j i ≡ true
 
 abbrev pub RulesOrder : Type 0
-RulesOrder = (rule : ℕ) → Orders (prefers rule)
+RulesOrder = (rule : Rule) → Orders (prefers rule)
 
 -- ranking above is strict, it chains, and of two contracts of one dredger one ranks above the other
 pub record RankOrders : Type 0 where

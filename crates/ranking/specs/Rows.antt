@@ -1,7 +1,9 @@
 -- The contracts of a list in a row: one dredger after the other, and within each by a rule.
-use Rattle.std.specs.Prelude.{◌≡◌, ℕ, ◌<◌, ◌≤◌, Bool, true, ◌&&◌, ◌||◌, List, length, take, Ok, Err, Result, nat_lt, slice_index}
+use Rattle.std.specs.Prelude.{◌≡◌, ℕ, ◌<◌, ◌≤◌, Bool, true, ◌&&◌, ◌||◌, List, length, Ok, Err, Result, nat_lt, slice_index}
 use Rattle.std.specs.List.Sorted.{IsPermutation}
+use Rattle.arrayvec.specs.ArrayVec.{ArrayVec}
 use Rattle.rules.specs.declared.table.Contract.{Contract}
+use Rattle.rules.specs.declared.table.Rule.{Rule}
 use Rattle.rules.specs.Contents.{contract_at}
 use Rattle.matching.specs.Sets.{Set, rising}
 use Rattle.board.specs.declared.unfit.Unfit.{Unfit}
@@ -10,22 +12,21 @@ use Rattle.board.specs.Refusals.{number, asks_marks}
 use Rattle.ranking.specs.Rank.{together, prefers}
 
 -- contract i comes before contract j in the row
-abbrev pub precedes : ℕ → List Contract → ℕ → ℕ → Bool
+abbrev pub precedes : Rule → List Contract → ℕ → ℕ → Bool
 precedes rule cs i j =
     nat_lt (contract_at cs i).dredger (contract_at cs j).dredger || (together cs i j && prefers rule (contract_at cs i) (contract_at cs j) i j)
 
 -- just the contracts of X, each once, in this order
-pub record Ordered (rule : ℕ) (cs : List Contract) (X : Set) (ns : List ℕ) : Type 0 where
+pub record Ordered (rule : Rule) (cs : List Contract) (X : Set) (ns : List ℕ) : Type 0 where
   pub same : IsPermutation (rising (length cs) X) ns
   pub sorted : (i j : ℕ) → i < j → j < length ns → precedes rule cs (slice_index ns i) (slice_index ns j) ≡ true
 
--- the first m of a row
-pub record Front (rule : ℕ) (cs : List Contract) (X : Set) (row : List ℕ) (m : ℕ) : Type 0 where
-  pub few : m ≤ 2048
-  pub counted : length (take m row) ≡ m
-  pub ordered : Ordered rule cs X (take m row)
+-- a row of the contracts of X
+pub record InRow (rule : Rule) (cs : List Contract) (X : Set) (row : List ℕ) : Type 0 where
+  pub few : length row ≤ 2048
+  pub ordered : Ordered rule cs X row
 
--- `line_up`: how many stand in the row, or 31, and the row stays
-abbrev pub Lined : ℕ → List Contract → List ℕ → List ℕ → List ℕ → Result ℕ Unfit → Type 0
-Lined rule cs marks row row' (Ok m) = (length marks ≡ length cs) × Front rule cs (member marks) row' m
-Lined rule cs marks row row' (Err e) = (number e ≡ asks_marks (length cs) (length marks)) × (row' ≡ row)
+-- `line_up`: the row of the marked contracts, or 31
+abbrev pub Lined : Rule → List Contract → List ℕ → Result (ArrayVec ℕ) Unfit → Type 0
+Lined rule cs marks (Ok row) = (length marks ≡ length cs) × InRow rule cs (member marks) row.items
+Lined rule cs marks (Err e) = number e ≡ asks_marks (length cs) (length marks)

@@ -1,79 +1,47 @@
 // The contracts of a list in a row.
-ghost use Rattle.std.specs.Prelude.{◌≡◌, ◌≤◌, length, take};
-ghost use Rattle.board.specs.Marks.{member};
+ghost use Rattle.std.specs.Prelude.{◌≡◌, ◌≤◌, length};
 ghost use Rattle.deck.specs.Contents.{data_of};
-ghost use Rattle.ranking.specs.Keys.{Fits, Gathered, Placed, Sorted, numbers};
-ghost use Rattle.ranking.specs.Rows.{Front, Lined};
+ghost use Rattle.ranking.specs.Keys.{Placed, numbers};
+ghost use Rattle.ranking.specs.Rows.{Lined};
 
-use crate::key::{Key, NO_KEY, key_of};
+use crate::key::{Key, key_of};
+use arrayvec::ArrayVec;
+use board::marks::{fit, is_in};
 use board::unfit::Unfit;
 use deck::deck::Deck;
-use rules::table::Contract;
+use rules::table::Rule;
 
-// Writes the keys of the marked contracts, and tells how many they are.
-fn gather(contracts: &[Contract], marks: &[u8], rule: u8, keys: &mut [Key]) -> usize
-    requires { Fits (length contracts.now) (length marks.now) (length keys.old) }
-    ensures { Gathered rule contracts.now marks.now keys.new result }
+fn numbers(keys: &[Key]) -> ArrayVec<u16, 2048>
+    requires { length keys.now ≤ 2048 }
+    ensures { result.items ≡ numbers keys.now }
 {
-    let mut count = 0;
-    for k in 0..contracts.len() {
-        if marks[k] != 0 {
-            keys[count] = key_of(rule, &contracts[k], k as u16);
-            count += 1;
-        }
+    let mut row = ArrayVec::new();
+    for key in keys {
+        row.push(key.number);
     }
-    count
+    row
 }
 
-fn sort_keys(keys: &mut [Key])
-    ensures { Sorted keys.old keys.new }
+// Sorts the keys, and takes their numbers.
+fn place(mut keys: ArrayVec<Key, 2048>) -> ArrayVec<u16, 2048>
+    ensures placed { Placed keys.items result.items }
+    ensures few { length result.items ≤ 2048 }
 {
     keys.sort_unstable();
+    numbers(&keys)
 }
 
-fn write_numbers(keys: &[Key], row: &mut [u16])
-    requires { length keys.now ≤ length row.old }
-    ensures { take (length keys.now) row.new ≡ numbers keys.now }
+// The marked contracts in a row: one dredger after the other, and within each by the rule.
+pub fn line_up(deck: &Deck, marks: &[u8], rule: Rule) -> Result<ArrayVec<u16, 2048>, Unfit>
+    ensures { Lined rule (data_of deck.now).contracts marks.now result }
 {
-    for i in 0..keys.len() {
-        row[i] = keys[i].number;
-    }
-}
-
-// Sorts the keys and writes their numbers.
-fn place(keys: &mut [Key], row: &mut [u16])
-    requires { length keys.old ≤ length row.old }
-    ensures { Placed keys.old row.new }
-{
-    sort_keys(keys);
-    write_numbers(keys, row);
-}
-
-// Puts the marked contracts in a row, with room for their keys.
-fn fill_row(
-    contracts: &[Contract],
-    marks: &[u8],
-    rule: u8,
-    keys: &mut [Key],
-    row: &mut [u16],
-) -> usize
-    requires fits { Fits (length contracts.now) (length marks.now) (length keys.old) }
-    requires whole { length row.old ≡ 2048 }
-    ensures { Front rule contracts.now (member marks.now) row.new result }
-{
-    let count = gather(contracts, marks, rule, keys);
-    place(&mut keys[0..count], row);
-    count
-}
-
-// Puts the marked contracts in a row: one dredger after the other, and within each by the rule. It tells how many they are.
-pub fn line_up(deck: &Deck, marks: &[u8], rule: u8, row: &mut [u16; 2048]) -> Result<usize, Unfit>
-    ensures { Lined rule (data_of deck.now).contracts marks.now row.old row.new result }
-{
+    fit(deck, marks)?;
     let contracts = deck.contracts();
-    if marks.len() != contracts.len() {
-        return Err(Unfit::Marks);
+    let mut keys = ArrayVec::new();
+    for (k, contract) in contracts.iter().enumerate() {
+        if is_in(marks, k) {
+            keys.push(key_of(rule, contract, k as u16));
+        }
     }
-    let mut keys = [NO_KEY; 2048];
-    Ok(fill_row(contracts, marks, rule, &mut keys, row))
+    Ok(place(keys))
 }

@@ -1,11 +1,10 @@
 -- The places that entries give, one entry after the other.
-use Rattle.std.specs.Prelude.{◌≡◌, ℕ, zero, suc, ◌+◌, ◌<◌, ◌≤◌, ◌⊎◌, List, [], ◌∷◌, length, replicate, ◌≢◌, slice_index, slice_set, refl}
-use Rattle.std.proofs.Common.{sym, ◌∙◌, ap, subst, inl, inr, ⊎_elim, arith, get_or-set_same, get_or-set_other}
+use Rattle.std.specs.Prelude.{◌≡◌, ℕ, zero, suc, ◌<◌, ◌≤◌, ◌⊎◌, List, [], ◌∷◌, length, replicate, ◌≢◌, slice_index, refl}
+use Rattle.std.proofs.Common.{sym, ◌∙◌, ap, inl, inr, ⊎_elim, arith}
 use Rattle.std.proofs.lemmas.List.{get_or_past, get_or-replicate, length-replicate}
 use Rattle.std.proofs.lemmas.Bool.{cases_eq, cases_lt, cond-true, cond-false, eq-eqb, ne_eqb}
 use Rattle.rules.specs.declared.table.Reservation.{Reservation}
 use Rattle.rules.specs.Contents.{reserve_at}
-use Rattle.deck.specs.Facts.{ReservesApart}
 use Rattle.reserve.specs.Reserves.{seats_for, Reserving}
 
 abbrev zeros : ℕ → List ℕ
@@ -17,27 +16,6 @@ get_or-zeros n v = ⊎_elim (λ l. get_or-replicate n v 0 0 l)
 
 pub reserving_none : (rs : List Reservation) (n : ℕ) → Reserving rs 0 (replicate n 0)
 reserving_none rs n = record { given = λ i l. absurd (omega arith); none = λ v h. get_or-zeros n v }
-
-reserving_more : (rs : List Reservation) (i : ℕ) (places : List ℕ) → ReservesApart rs → i < length rs → (reserve_at rs i).dredger < length places
-    → Reserving rs i places → Reserving rs (i + 1) (slice_set places (reserve_at rs i).dredger (reserve_at rs i).seats)
-reserving_more rs i places apart l in-range h = record {
-  given = λ j m. ⊎_elim
-      (λ q. get_or-set_other places (reserve_at rs i).dredger (reserve_at rs j).dredger (reserve_at rs i).seats 0 (λ e. apart j i (q, l) e) ∙ h.given j q)
-      (λ q. let e : j ≡ i = omega arith in same j e) (cases_lt j i);
-  none = λ v no.
-      get_or-set_other places (reserve_at rs i).dredger v (reserve_at rs i).seats 0 (λ e. no i (omega arith) (sym e))
-      ∙ h.none v (λ j m e. no j (omega arith) e);
-}
-  where
-    same : (j : ℕ) → j ≡ i → slice_index (slice_set places (reserve_at rs i).dredger (reserve_at rs i).seats) (reserve_at rs j).dredger ≡ (reserve_at rs j).seats
-    same j e =
-        ap (λ x. slice_index (slice_set places (reserve_at rs i).dredger (reserve_at rs i).seats) (reserve_at rs x).dredger) e
-        ∙ get_or-set_same places (reserve_at rs i).dredger (reserve_at rs i).seats 0 in-range ∙ sym (ap (λ x. (reserve_at rs x).seats) e)
-
-pub reserving_next : (rs : List Reservation) (i : ℕ) (places after : List ℕ) → ReservesApart rs → i < length rs → (reserve_at rs i).dredger < length places
-    → Reserving rs i places → after ≡ slice_set places (reserve_at rs i).dredger (reserve_at rs i).seats → Reserving rs (i + 1) after
-reserving_next rs i places after apart l in-range h e =
-    let P : List ℕ → Type 0 = λ ps. Reserving rs (i + 1) ps in subst P (sym e) (reserving_more rs i places apart l in-range h)
 
 -- the first entry of a dredger, if it has one
 looked_up : (rs : List Reservation) (v : ℕ)

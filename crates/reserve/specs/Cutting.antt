@@ -2,22 +2,22 @@
 use Rattle.std.specs.Prelude.{◌≡◌, ℕ, zero, suc, ◌+◌, ◌<◌, ◌≤◌, Bool, true, false, cond, not, ◌&&◌, ◌||◌, ltb, List, [], ◌∷◌, ◌++◌, length, take, count_by, ◌==◌, ◌≢◌, nat_eq, nat_lt, slice_index, slice_index_or, refl}
 use Rattle.std.proofs.Common.{sym, ◌∙◌, ap, subst, ⊎_elim, arith}
 use Rattle.std.proofs.Math.Path.{fun_ext}
-use Rattle.std.proofs.lemmas.List.{get_or_past, take_more, take_all}
+use Rattle.std.proofs.lemmas.List.{get_or_past, length-take, take_more, take_all}
 use Rattle.std.proofs.lemmas.List.Sums.{sum_by_more, count_by-le-length}
-use Rattle.std.proofs.lemmas.Bool.{and_parts, and_from, and_left, and_right, or_left, or_right, or_cases, cases_eq, cases_lt, both_ways, eq-eqb, ne_eqb, eqb-true, cond-true, cond-false, lt-ltb, le-ltb, ltb-true}
+use Rattle.std.proofs.lemmas.Bool.{and_parts, and_from, and_left, and_right, or_left, or_right, or_cases, cases_eq, cases_lt, both_ways, eq-eqb, ne_eqb, eqb-true, lt-ltb, le-ltb, ltb-true}
 use Rattle.rules.specs.declared.table.Contract.{Contract}
+use Rattle.rules.specs.declared.table.Rule.TheVariants.{Rank}
 use Rattle.rules.specs.Contents.{contract_at}
 use Rattle.matching.specs.Sets.{Set, common, Within}
 use Rattle.matching.specs.Choices.{Lawful, ahead, first}
-use Rattle.matching.proofs.Sets.{same_bool, or_false}
+use Rattle.matching.proofs.Sets.{same_bool, or_false, and_true}
 use Rattle.matching.proofs.Sums.{passing_same}
 use Rattle.matching.proofs.Firsts.{first-lawful}
-use Rattle.board.specs.Marks.{member}
 use Rattle.ranking.specs.Rank.{above, together}
 use Rattle.ranking.specs.Rows.{Ordered}
 use Rattle.ranking.proofs.Orderings.{above_irrefl, above_trans}
 use Rattle.ranking.proofs.Lineups.{lined_in, lined_all, lined-ahead}
-use Rattle.reserve.specs.Reserves.{flagged, reserve, reserved, entitled, entitled_of, left_or_out}
+use Rattle.reserve.specs.Reserves.{flagged, reserve, reserved, entitled, entitled_of, has_room, left}
 
 -- the reserve part is a lawful choice
 pub reserved-lawful : (places : List ℕ) (cs : List Contract) → Lawful (length cs) (reserved places cs)
@@ -60,20 +60,37 @@ all j = true
 abbrev free : List ℕ → List Contract → Set → ℕ → Bool
 free places cs E k = nat_lt (ahead (length cs) all (above cs) E k) (reserve places cs k)
 
--- after i contracts of the row: how many were seen at each dredger, and which marks are left
-pub record Cut (places : List ℕ) (cs : List Contract) (E : Set) (ns entry seen taken : List ℕ) (i : ℕ) : Type 0 where
+-- after i contracts of the row: how many were seen at each dredger, and which are left
+pub record Cut (places : List ℕ) (cs : List Contract) (E : Set) (ns seen : List ℕ) (T : Set) (i : ℕ) : Type 0 where
   pub seen_is : (v : ℕ) → slice_index seen v ≡ count_by (λ j. nat_eq (contract_at cs j).dredger v) (take i ns)
-  pub taken_is : (k : ℕ) → slice_index taken k ≡ cond (among (take i ns) k && not (free places cs E k)) 0 (slice_index entry k)
+  pub left_is : (k : ℕ) → T k ≡ (E k && not (among (take i ns) k && not (free places cs E k)))
 
--- what the next contract adds to those seen, and what becomes of its mark
+-- what the next contract adds to those seen
 abbrev Sees : List Contract → List ℕ → List ℕ → ℕ → Type 0
 Sees cs seen seen' k = (v : ℕ) → slice_index seen' v ≡ slice_index seen v + cond ((contract_at cs k).dredger == v) 1 0
 
-abbrev Takes : List ℕ → List Contract → List ℕ → List ℕ → List ℕ → ℕ → Type 0
-Takes places cs seen taken taken' k =
-    (j : ℕ) → slice_index taken' j ≡ left_or_out (nat_lt (slice_index seen (contract_at cs k).dredger) (reserve places cs k)) (j == k) (slice_index taken j)
+left_here : (r a t e : Bool) → t ≡ (e && not (a && not r)) → cond r t (t && not true) ≡ (e && not (true && not r))
+left_here true true t e h = h
+left_here true false t e h = h
+left_here false a true true h = refl
+left_here false a true false h = refl
+left_here false a false true h = refl
+left_here false a false false h = refl
 
-module _ (places : List ℕ) (cs : List Contract) (E : Set) (ns : List ℕ) (o : Ordered 0 cs E ns) where
+left_other : (r t q : Bool) → q ≡ false → cond r t (t && not q) ≡ t
+left_other true t q h = refl
+left_other false t q h = ap (λ b. t && not b) h ∙ and_true t
+
+left_end : (e r t : Bool) → t ≡ (e && not (e && not r)) → t ≡ (e && (true && r))
+left_end true true t h = h
+left_end true false t h = h
+left_end false r t h = h
+
+left_at : (r : Bool) (X : Set) (x k : ℕ) → left r X x k ≡ cond r (X k) (X k && not (k == x))
+left_at true X x k = refl
+left_at false X x k = refl
+
+module _ (places : List ℕ) (cs : List Contract) (E : Set) (ns : List ℕ) (o : Ordered Rank cs E ns) where
   abbrev room : ℕ → Bool
   room k = free places cs E k
 
@@ -83,76 +100,75 @@ module _ (places : List ℕ) (cs : List Contract) (E : Set) (ns : List ℕ) (o :
       (λ h. let r = among_place ns k h in let P : ℕ → Type 0 = λ j. E j ≡ true in subst P r.2 (lined_in o r.0 r.1).0)
       (λ h. let r = lined_all o k (w k h) h in among_at ns r.0 k r.1 r.2)
 
-  pub cut_none : (entry seen : List ℕ) → ((v : ℕ) → slice_index seen v ≡ 0) → Cut places cs E ns entry seen entry 0
-  cut_none entry seen z = record { seen_is = z; taken_is = λ k. refl }
+  pub cut_none : (seen : List ℕ) → ((v : ℕ) → slice_index seen v ≡ 0) → Cut places cs E ns seen E 0
+  cut_none seen z = record { seen_is = z; left_is = λ k. sym (and_true (E k)) }
 
   -- what was seen at the dredger of the next contract is what ranks above it
-  seen_room : (entry seen taken : List ℕ) (i : ℕ) → i < length ns → Cut places cs E ns entry seen taken i
-      → nat_lt (slice_index seen (contract_at cs (slice_index ns i)).dredger) (reserve places cs (slice_index ns i)) ≡ room (slice_index ns i)
-  seen_room entry seen taken i l h =
+  seen_room : (seen : List ℕ) (T : Set) (i : ℕ) → i < length ns → Cut places cs E ns seen T i → has_room places seen cs (slice_index ns i) ≡ room (slice_index ns i)
+  seen_room seen T i l h =
       ap (λ x. ltb x (reserve places cs (slice_index ns i))) (h.seen_is (contract_at cs (slice_index ns i)).dredger ∙ sym (lined-ahead o i all l))
 
-  mark_here : (r a : Bool) (x y : ℕ) → x ≡ cond (a && not r) 0 y → cond r x 0 ≡ cond (not r) 0 y
-  mark_here true true x y e = e
-  mark_here true false x y e = e
-  mark_here false a x y e = refl
-
-  cut_at : (entry seen taken seen' taken' : List ℕ) (i : ℕ) → i < length ns → Cut places cs E ns entry seen taken i
-      → Sees cs seen seen' (slice_index ns i) → Takes places cs seen taken taken' (slice_index ns i)
-      → Cut places cs E ns entry seen' taken' (i + 1)
-  cut_at entry seen taken seen' taken' i l h s t = record {
+  cut_at : (seen seen' : List ℕ) (T T' : Set) (i : ℕ) → i < length ns → Cut places cs E ns seen T i
+      → Sees cs seen seen' (slice_index ns i) → T' ≡ left (has_room places seen cs (slice_index ns i)) T (slice_index ns i)
+      → Cut places cs E ns seen' T' (i + 1)
+  cut_at seen seen' T T' i l h s t = record {
     seen_is = λ v. s v ∙ ap (λ x. x + cond ((contract_at cs (slice_index ns i)).dredger == v) 1 0) (h.seen_is v)
         ∙ sym (sum_by_more (λ j. cond ((contract_at cs j).dredger == v) 1 0) ns i 0 l);
-    taken_is = λ k. t k ∙ ap (λ b. left_or_out b (k == slice_index ns i) (slice_index taken k)) (seen_room entry seen taken i l h)
+    left_is = λ k. ap (λ (X : Set). X k) t
+        ∙ left_at (has_room places seen cs (slice_index ns i)) T (slice_index ns i) k
+        ∙ ap (λ b. cond b (T k) (T k && not (k == slice_index ns i))) (seen_room seen T i l h)
         ∙ ⊎_elim (here k) (other k) (cases_eq k (slice_index ns i))
-        ∙ sym (ap (λ b. cond (b && not (room k)) 0 (slice_index entry k)) (among_more ns i k l));
+        ∙ sym (ap (λ b. E k && not (b && not (room k))) (among_more ns i k l));
   }
     where
       here : (k : ℕ) → k ≡ slice_index ns i
-          → left_or_out (room (slice_index ns i)) (k == slice_index ns i) (slice_index taken k) ≡ cond ((among (take i ns) k || k == slice_index ns i) && not (room k)) 0 (slice_index entry k)
+          → cond (room (slice_index ns i)) (T k) (T k && not (k == slice_index ns i)) ≡ (E k && not ((among (take i ns) k || k == slice_index ns i) && not (room k)))
       here k e =
-          cond-true (k == slice_index ns i) _ _ (eq-eqb _ _ e)
-          ∙ ap (λ j. cond (room j) (slice_index taken k) 0) (sym e)
-          ∙ mark_here (room k) (among (take i ns) k) (slice_index taken k) (slice_index entry k) (h.taken_is k)
-          ∙ sym (ap (λ b. cond (b && not (room k)) 0 (slice_index entry k)) (or_right (among (take i ns) k) _ (eq-eqb _ _ e)))
+          ap (λ b. cond (room (slice_index ns i)) (T k) (T k && not b)) (eq-eqb _ _ e)
+          ∙ ap (λ j. cond (room j) (T k) (T k && not true)) (sym e)
+          ∙ left_here (room k) (among (take i ns) k) (T k) (E k) (h.left_is k)
+          ∙ sym (ap (λ b. E k && not (b && not (room k))) (or_right (among (take i ns) k) _ (eq-eqb _ _ e)))
 
       other : (k : ℕ) → (k ≢ slice_index ns i)
-          → left_or_out (room (slice_index ns i)) (k == slice_index ns i) (slice_index taken k) ≡ cond ((among (take i ns) k || k == slice_index ns i) && not (room k)) 0 (slice_index entry k)
+          → cond (room (slice_index ns i)) (T k) (T k && not (k == slice_index ns i)) ≡ (E k && not ((among (take i ns) k || k == slice_index ns i) && not (room k)))
       other k ne =
-          cond-false (k == slice_index ns i) _ _ (ne_eqb _ _ ne)
-          ∙ h.taken_is k
-          ∙ sym (ap (λ b. cond ((among (take i ns) k || b) && not (room k)) 0 (slice_index entry k)) (ne_eqb _ _ ne)
-          ∙ ap (λ b. cond (b && not (room k)) 0 (slice_index entry k)) (or_false (among (take i ns) k)))
+          left_other (room (slice_index ns i)) (T k) (k == slice_index ns i) (ne_eqb _ _ ne)
+          ∙ h.left_is k
+          ∙ sym (ap (λ b. E k && not ((among (take i ns) k || b) && not (room k))) (ne_eqb _ _ ne)
+          ∙ ap (λ b. E k && not (b && not (room k))) (or_false (among (take i ns) k)))
 
-  pub cut_more : (entry seen taken seen' taken' : List ℕ) (i k : ℕ) → i < length ns → slice_index ns i ≡ k → Cut places cs E ns entry seen taken i
-      → Sees cs seen seen' k → Takes places cs seen taken taken' k → Cut places cs E ns entry seen' taken' (i + 1)
-  cut_more entry seen taken seen' taken' i k l e h =
-      let P : ℕ → Type 0 = λ x. Sees cs seen seen' x → Takes places cs seen taken taken' x → Cut places cs E ns entry seen' taken' (i + 1) in
-      subst P e (cut_at entry seen taken seen' taken' i l h)
-
-  mark_end : (e r : Bool) (x y : ℕ) → not (y == 0) ≡ e → x ≡ cond (e && not r) 0 y → not (x == 0) ≡ (e && (true && r))
-  mark_end true true x y m q = ap (λ z. not (z == 0)) q ∙ m
-  mark_end true false x y m q = ap (λ z. not (z == 0)) q
-  mark_end false r x y m q = ap (λ z. not (z == 0)) q ∙ m
-
-  pub cut_all : (entry seen taken : List ℕ) (i : ℕ) → length ns ≤ i → Within (length cs) E → member entry ≡ E → Cut places cs E ns entry seen taken i
-      → member taken ≡ first (length cs) all (above cs) (reserve places cs) E
-  cut_all entry seen taken i l w m h = fun_ext λ k.
-      mark_end (E k) (room k) (slice_index taken k) (slice_index entry k) (ap (λ X. X k) m)
-      (h.taken_is k ∙ ap (λ b. cond (b && not (room k)) 0 (slice_index entry k)) (ap (λ xs. among xs k) (take_all i ns l) ∙ among_is w k))
+  -- the same by contracts ds that were read
+  pub cut_more : (ds : List Contract) (seen seen' : List ℕ) (T T' : Set) (i : ℕ) → ds ≡ cs → i < length ns → Cut places cs E ns seen T i
+      → Sees ds seen seen' (slice_index ns i) → T' ≡ left (has_room places seen ds (slice_index ns i)) T (slice_index ns i)
+      → Cut places cs E ns seen' T' (i + 1)
+  cut_more ds seen seen' T T' i d l h =
+      let P : List Contract → Type 0 = λ ds. Sees ds seen seen' (slice_index ns i) → T' ≡ left (has_room places seen ds (slice_index ns i)) T (slice_index ns i)
+      → Cut places cs E ns seen' T' (i + 1) in
+      subst P (sym d) (cut_at seen seen' T T' i l h)
 
   -- nobody is seen more often than the row is long
-  pub seen_few : (entry seen taken : List ℕ) (i v m : ℕ) → length ns ≤ m → Cut places cs E ns entry seen taken i → slice_index seen v ≤ m
-  seen_few entry seen taken i v m l h =
+  pub seen_few : (seen : List ℕ) (T : Set) (i v m : ℕ) → length ns ≤ m → Cut places cs E ns seen T i → slice_index seen v ≤ m
+  seen_few seen T i v m l h =
       let a = count_by-le-length (λ j. nat_eq (contract_at cs j).dredger v) (take i ns) in
-      let b : length (take i ns) ≤ length ns = length-take-le' i ns in
+      let b = length-take i ns in
       let c = h.seen_is v in
       omega arith
-    where
-      length-take-le' : (i : ℕ) (xs : List ℕ) → length (take i xs) ≤ length xs
-      length-take-le' zero xs = omega arith
-      length-take-le' (suc j) [] = omega arith
-      length-take-le' (suc j) (x ∷ xs) = let r = length-take-le' j xs in omega arith
+
+  -- what the next contract is known by, by contracts ds that were read
+  pub next_known : (ds : List Contract) (seen : List ℕ) (T : Set) (i m n : ℕ) → ds ≡ cs → i < length ns → length ns ≤ m → Cut places cs E ns seen T i
+      → ((k : ℕ) → E k ≡ true → (contract_at cs k).dredger < n)
+      → (slice_index ns i < length ds) × ((contract_at ds (slice_index ns i)).dredger < n) × (slice_index seen (contract_at ds (slice_index ns i)).dredger ≤ m)
+  next_known ds seen T i m n d l few h low =
+      let P : List Contract → Type 0 = λ ds.
+      (slice_index ns i < length ds) × ((contract_at ds (slice_index ns i)).dredger < n) × (slice_index seen (contract_at ds (slice_index ns i)).dredger ≤ m) in
+      let r = lined_in o i l in
+      subst P (sym d) (r.1, low (slice_index ns i) r.0, seen_few seen T i (contract_at cs (slice_index ns i)).dredger m few h)
+
+  pub cut_all : (seen : List ℕ) (T : Set) (i : ℕ) → length ns ≤ i → Within (length cs) E → Cut places cs E ns seen T i
+      → T ≡ first (length cs) all (above cs) (reserve places cs) E
+  cut_all seen T i l w h = fun_ext λ k.
+      left_end (E k) (room k) (T k)
+      (h.left_is k ∙ ap (λ b. E k && not (b && not (room k))) (ap (λ xs. among xs k) (take_all i ns l) ∙ among_is w k))
 
 -- among those who may, the first are those of the reserve part
 pub reserve_part : (places : List ℕ) (cs : List Contract) (X : Set)

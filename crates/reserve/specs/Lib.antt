@@ -1,2 +1,3 @@
 pub mod Reserves
 pub mod Cutting
+pub mod Reserve

@@ -3,7 +3,7 @@ use Rattle.std.specs.Prelude.{◌≡◌, ℕ, ◌<◌, Bool, cond, ◌&&◌, Lis
 use Rattle.rules.specs.declared.table.Contract.{Contract}
 use Rattle.rules.specs.declared.table.Reservation.{Reservation}
 use Rattle.rules.specs.Contents.{contract_at, reserve_at}
-use Rattle.matching.specs.Sets.{Set, minus}
+use Rattle.matching.specs.Sets.{Set, less, minus}
 use Rattle.matching.specs.Choices.{Choice, first}
 use Rattle.ranking.specs.Rank.{above}
 
@@ -41,6 +41,10 @@ entitled places c = c.flag && nat_lt 0 (slice_index places c.dredger)
 abbrev pub entitled_of : List ℕ → List Contract → Set
 entitled_of places cs k = entitled places (contract_at cs k)
 
--- the mark of a contract that stays where there is room for it or it is another
-abbrev pub left_or_out : Bool → Bool → ℕ → ℕ
-left_or_out room here x = cond here (cond room x 0) x
+-- is a place left at the contract's dredger, after those that were seen there?
+abbrev pub has_room : List ℕ → List ℕ → List Contract → ℕ → Bool
+has_room places seen cs k = nat_lt (slice_index seen (contract_at cs k).dredger) (reserve places cs k)
+
+-- the list itself where there is room for contract k, else without it
+abbrev pub left : Bool → Set → ℕ → Set
+left room X k = cond room X (less X k)

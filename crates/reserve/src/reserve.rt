@@ -1,17 +1,12 @@
 // A layer that fills reserved places before the board below chooses.
-ghost use Rattle.std.specs.Prelude.{◌≡◌, ℕ, ◌<◌, true, length, slice_index};
-ghost use Rattle.board.specs.Calls.{Chosen, Explained};
-ghost use Rattle.board.specs.Marks.{member};
+ghost use Rattle.std.specs.Prelude.{◌≡◌, ℕ};
 ghost use Rattle.deck.specs.Contents.{data_of};
-ghost use Rattle.reserve.specs.Reserves.{reserve_reason, reserved, seats_for};
-ghost use Rattle.matching.specs.Choices.{over};
-ghost use Rattle.matching.proofs.Made.{over-lawful};
-ghost use Rattle.reserve.specs.Cutting.{reserved-lawful};
 ghost use Rattle.std.proofs.Common.{rules};
 
 use crate::reserves::Reserves;
 use board::board::Board;
 use board::explain::Explain;
+use board::marked::Marked;
 use board::marks::{is_in, is_listed, put_in, take_out};
 use board::unfit::Unfit;
 use deck::deck::Deck;
@@ -23,10 +18,13 @@ pub struct Reserve<C> {
 }
 
 impl<C> Reserve<C> {
+    ghost use Rattle.reserve.specs.Reserve.{seats_of};
+    ghost use Rattle.reserve.specs.Reserves.{seats_for};
+
     // The reserves of a deck, on this board.
     pub fn of(below: C, deck: &Deck) -> Reserve<C>
         ensures below { result.below ≡ below }
-        ensures reserves { (v : ℕ) → slice_index result.reserves.places v ≡ seats_for (data_of deck.now).reserves v }
+        ensures reserves { (v : ℕ) → seats_of result v ≡ seats_for (data_of deck.now).reserves v }
     {
         Reserve {
             below,
@@ -35,76 +33,32 @@ impl<C> Reserve<C> {
     }
 }
 
-impl<C: Board> Reserve<C> {
-    // Chooses, where the marks are as long as the deck has contracts.
-    fn pass_on(&self, deck: &Deck, marks: &mut [u8]) -> Result<(), Unfit>
-        requires { length marks.old ≡ length (data_of deck.now).contracts }
-        ensures { Chosen
-            (over (reserved self.now.reserves.places (data_of deck.now).contracts) (C.Board.kept self.now.below (data_of deck.now)))
-            (length (data_of deck.now).contracts) marks.old marks.new result }
-    {
-        let mut own = [0u8; 2048];
-        let taken = &mut own[0..marks.len()];
-        self.reserves.part(deck, marks, taken);
-        take_out(marks, taken);
+impl<C: Board> Board for Reserve<C> {
+    ghost use Rattle.matching.specs.Choices.{over};
+    ghost use Rattle.reserve.specs.Reserve.{part_of, reserve-lawful};
+
+    ghost kept = { λ s t. over (part_of s t) (C.Board.kept s.below t) };
+
+    ghost part = { λ b t o. (reserve-lawful C.Board.part C.Board.substitutable C.Board.irrelevant b t o).part };
+
+    ghost substitutable = { λ b t o. (reserve-lawful C.Board.part C.Board.substitutable C.Board.irrelevant b t o).substitutable };
+
+    ghost irrelevant = { λ b t o. (reserve-lawful C.Board.part C.Board.substitutable C.Board.irrelevant b t o).irrelevant };
+
+    fn choose(&self, deck: &Deck, marks: &mut [u8]) -> Result<(), Unfit> {
+        let taken = self.reserves.part(deck, marks)?;
+        take_out(marks, taken.marks());
         self.below.choose(deck, marks)?;
-        put_in(marks, taken);
+        put_in(marks, taken.marks());
         Ok(())
     }
 }
 
-impl<C: Board> Board for Reserve<C> {
-    ghost kept = { λ s t. over (reserved s.reserves.places t.contracts) (C.Board.kept s.below t) };
-
-    ghost part = { λ b t o.
-        let m = C.Board in
-        (over-lawful (length t.contracts) (reserved b.reserves.places t.contracts) (C.Board.kept b.below t) (reserved-lawful b.reserves.places t.contracts)
-        (record { part = m.part b.below t o; substitutable = m.substitutable b.below t o; irrelevant = m.irrelevant b.below t o })).part };
-
-    ghost substitutable = { λ b t o.
-        let m = C.Board in
-        (over-lawful (length t.contracts) (reserved b.reserves.places t.contracts) (C.Board.kept b.below t) (reserved-lawful b.reserves.places t.contracts)
-        (record { part = m.part b.below t o; substitutable = m.substitutable b.below t o; irrelevant = m.irrelevant b.below t o })).substitutable };
-
-    ghost irrelevant = { λ b t o.
-        let m = C.Board in
-        (over-lawful (length t.contracts) (reserved b.reserves.places t.contracts) (C.Board.kept b.below t) (reserved-lawful b.reserves.places t.contracts)
-        (record { part = m.part b.below t o; substitutable = m.substitutable b.below t o; irrelevant = m.irrelevant b.below t o })).irrelevant };
-
-    fn choose(&self, deck: &Deck, marks: &mut [u8]) -> Result<(), Unfit> {
-        if marks.len() != deck.contracts().len() {
-            return Err(Unfit::Marks);
-        }
-        self.pass_on(deck, marks)
-    }
-}
-
-impl<C: Explain> Reserve<C> {
-    // Gives the reason, for a contract of the list.
-    fn explain(&self, deck: &Deck, marks: &[u8], k: u16) -> Result<(u8, u16), Unfit>
-        requires { (length marks.now ≡ length (data_of deck.now).contracts) × ((k < length (data_of deck.now).contracts) × (member marks.now k ≡ true)) }
-        ensures { Explained
-            (over (reserved self.now.reserves.places (data_of deck.now).contracts) (C.Board.kept self.now.below (data_of deck.now)))
-            (reserve_reason (reserved self.now.reserves.places (data_of deck.now).contracts) (C.Explain.reason self.now.below (data_of deck.now)))
-            (length (data_of deck.now).contracts) marks.now k result }
-    {
-        let n = marks.len();
-        let mut own = [0u8; 2048];
-        let taken = &mut own[0..n];
-        self.reserves.part(deck, marks, taken);
-        if is_in(taken, k as usize) {
-            return Ok((0, 0));
-        }
-        let mut more = [0u8; 2048];
-        let rest = &mut more[0..n];
-        rest.copy_from_slice(marks);
-        take_out(rest, taken);
-        self.below.why(deck, rest, k)
-    }
-}
-
 impl<C: Explain> Explain for Reserve<C> {
-    ghost reason = { λ s t. reserve_reason (reserved s.reserves.places t.contracts) (C.Explain.reason s.below t) };
+    ghost use Rattle.reserve.specs.Reserve.{part_of};
+    ghost use Rattle.reserve.specs.Reserves.{reserve_reason};
+
+    ghost reason = { λ s t. reserve_reason (part_of s t) (C.Explain.reason s.below t) };
 
     ghost further = { Prim.search rules };
 
@@ -112,6 +66,12 @@ impl<C: Explain> Explain for Reserve<C> {
         if !is_listed(deck, marks, k)? {
             return Ok((1, 0));
         }
-        self.explain(deck, marks, k)
+        let taken = self.reserves.part(deck, marks)?;
+        if taken.has(k) {
+            return Ok((0, 0));
+        }
+        let mut rest = Marked::of(deck, marks)?;
+        rest.keep(|j| !is_in(taken.marks(), j));
+        self.below.why(deck, rest.marks(), k)
     }
 }

@@ -1,6 +1,9 @@
 -- What six tables hold, without the memory that holds it.
-use Rattle.std.specs.Prelude.{ℕ, false, List, [], slice_index_or}
+use Rattle.std.specs.Prelude.{◌≡◌, ℕ, ◌<◌, ◌≤◌, false, zero, suc, List, [], None, Result, MatchResult, slice_index_or}
 use Rattle.rules.specs.declared.table.Group.{Group}
+use Rattle.rules.specs.declared.table.Rule.{Rule}
+use Rattle.rules.specs.declared.table.Rule.TheVariants.{Rank, Lot, Term}
+use Rattle.rules.specs.declared.table.UnknownRule.{UnknownRule}
 use Rattle.rules.specs.declared.table.Seat.{Seat}
 use Rattle.rules.specs.declared.table.Reservation.{Reservation}
 use Rattle.rules.specs.declared.table.Trainee.{Trainee}
@@ -29,12 +32,22 @@ content_of t = record {
 abbrev pub nothing : Content
 nothing = record { groups = []; seats = []; reserves = []; trainees = []; contracts = []; bars = [] }
 
--- what is read past the end of a table
+-- the rule that a byte stands for: by rank, by lot or by term
+abbrev pub rule_of : ℕ → Rule
+rule_of zero = Rank
+rule_of (suc zero) = Lot
+rule_of (suc (suc b)) = Term
+
+-- a byte of at most 2 gives its rule, and any other is handed back
+abbrev pub RuleGiven : ℕ → Result Rule UnknownRule → Type 0
+RuleGiven b r = MatchResult r (λ rule. (b ≤ 2) × (rule ≡ rule_of b)) (λ e. (2 < b) × (e.0 ≡ b))
+
+-- blank entries, and what is read past the end of a table
 abbrev pub zero_group : Group
-zero_group = record { parent = 0; capacity = 0; name = 0; dredger = 0 }
+zero_group = record { parent = None; capacity = 0; name = 0; dredger = 0 }
 
 abbrev pub zero_seat : Seat
-zero_seat = record { dredger = 0; rule = 0 }
+zero_seat = record { dredger = 0; rule = Rank }
 
 abbrev pub zero_reservation : Reservation
 zero_reservation = record { dredger = 0; seats = 0 }

@@ -1,11 +1,13 @@
 -- The rules of a record, given the entries of those before it.
-use Rattle.std.specs.Prelude.{◌≡◌, ℕ, ◌-◌, ◌<◌, ◌≤◌, true, false, List, length, ◌≢◌, slice_index}
+use Rattle.std.specs.Prelude.{◌≡◌, ℕ, ◌-◌, ◌<◌, ◌≤◌, true, false, List, length, None, ◌≢◌, All}
 use Rattle.format.specs.declared.record.Kind.{Kind}
 use Rattle.format.specs.declared.record.Kind.TheVariants as K
 use Rattle.format.specs.declared.record.Record.{Record}
 use Rattle.format.specs.declared.record.Record.TheVariants.{Group, Seat, Reserve, Trainee, Wish, Bar, End}
-use Rattle.format.specs.Layout.{kind, Formed, Begins, Starts, Took}
+use Rattle.format.specs.declared.reader.Reader.{Reader}
+use Rattle.format.specs.Layout.{kind, Formed, Begins, Starts}
 use Rattle.format.specs.Questions.{ByteNo}
+use Rattle.format.specs.Reader.{Took}
 use Rattle.rules.specs.declared.fault.RecordFault.{RecordFault}
 use Rattle.rules.specs.declared.fault.RecordFault.TheVariants.{Bytes, Misplaced, Full, Range, Repeat}
 use Rattle.rules.specs.declared.section.Section.{Section}
@@ -14,7 +16,7 @@ use Rattle.rules.specs.declared.table.Reservation.{Reservation}
 use Rattle.rules.specs.declared.table.Trainee.{Trainee as TraineeEntry}
 use Rattle.rules.specs.declared.table.Contract.{Contract}
 use Rattle.rules.specs.declared.table.Barring.{Barring}
-use Rattle.rules.specs.Contents.{Content, group_at, reserve_at, trainee_at, contract_at, bar_at}
+use Rattle.rules.specs.Contents.{Content, group_at}
 use Rattle.rules.specs.Order.{may, after}
 
 -- the most entries of a kind
@@ -42,11 +44,11 @@ Room t k = entries t k < most k
 
 -- each byte of a name is one of 32 to 126
 abbrev pub Printable : List ℕ → Type 0
-Printable n = (i : ℕ) → i < length n → (32 ≤ slice_index n i) × (slice_index n i ≤ 126)
+Printable n = All (λ b. (32 ≤ b) × (b ≤ 126)) n
 
 -- a given group without parent
 abbrev pub IsDredger : List GroupEntry → ℕ → Type 0
-IsDredger gs d = (d < length gs) × ((group_at gs d).parent ≡ 255)
+IsDredger gs d = (d < length gs) × ((group_at gs d).parent ≡ None)
 
 -- no parent, or an earlier group
 abbrev pub IsParent : List GroupEntry → ℕ → Type 0
@@ -68,19 +70,19 @@ current t = length t.trainees - 1
 
 -- the dredger has no reserve yet
 abbrev pub FreshReserve : List Reservation → ℕ → Type 0
-FreshReserve rs d = (k : ℕ) → k < length rs → (reserve_at rs k).dredger ≢ d
+FreshReserve rs d = All (λ e. e.dredger ≢ d) rs
 
 -- no trainee has this lot yet
 abbrev pub FreshLot : List TraineeEntry → ℕ → Type 0
-FreshLot ts l = (k : ℕ) → k < length ts → (trainee_at ts k).lot ≢ l
+FreshLot ts l = All (λ e. e.lot ≢ l) ts
 
 -- the trainee has no wish for a group of this dredger yet
 abbrev pub FreshWish : List Contract → ℕ → ℕ → Type 0
-FreshWish cs t d = (k : ℕ) → k < length cs → (contract_at cs k).trainee ≡ t → (contract_at cs k).dredger ≢ d
+FreshWish cs t d = All (λ e. e.trainee ≡ t → e.dredger ≢ d) cs
 
 -- the trainee has no bar for this dredger yet
 abbrev pub FreshBar : List Barring → ℕ → ℕ → Type 0
-FreshBar bs t d = (k : ℕ) → k < length bs → (bar_at bs k).trainee ≡ t → (bar_at bs k).dredger ≢ d
+FreshBar bs t d = All (λ e. e.trainee ≡ t → e.dredger ≢ d) bs
 
 -- the record repeats no lot, wish, bar or reserve
 abbrev pub Fresh : Content → Record → Type 0
@@ -120,8 +122,8 @@ RecordNo s t rest p (Full q) = (r : Record) × (more : List ℕ) × Starts rest 
 RecordNo s t rest p (Range q) = (r : Record) × (more : List ℕ) × Starts rest r more × (may s (kind r) ≡ true) × RuleNo t r p (Range q)
 RecordNo s t rest p (Repeat q) = (r : Record) × (more : List ℕ) × Starts rest r more × (may s (kind r) ≡ true) × RuleNo t r p (Repeat q)
 
--- a record was taken off all at place p, and is allowed; q is the next one's place
-pub record Admitted (s : Section) (t : Content) (all : List ℕ) (p q : ℕ) (x : Record × Section) : Type 0 where
-  pub took : Took all p q x.0
+-- a record was taken off a reader and is allowed, and the section after it
+pub record Admitted (s : Section) (t : Content) (old new : Reader) (x : Record × Section) : Type 0 where
+  pub took : Took old new x.0
   pub next : x.1 ≡ after (kind x.0)
   pub allowed : Allowed s t x.0

@@ -1,9 +1,8 @@
 // Admitting the next record of a deck.
-ghost use Rattle.std.specs.Prelude.{◌≡◌, ℕ, ◌+◌, ◌<◌, ◌≤◌, length, drop, MatchResult};
-ghost use Rattle.format.specs.Layout.{Took, kind};
+ghost use Rattle.std.specs.Prelude.{MatchResult};
+ghost use Rattle.format.specs.Reader.{SameBytes, rest_of};
 ghost use Rattle.rules.specs.Contents.{content_of};
-ghost use Rattle.rules.specs.Order.{after};
-ghost use Rattle.rules.specs.Rules.{Admitted, Allowed, RecordNo};
+ghost use Rattle.rules.specs.Rules.{Admitted, RecordNo};
 
 use crate::fault::RecordFault;
 use crate::judge::judge;
@@ -13,14 +12,15 @@ use format::reader::Reader;
 use format::record::Record;
 
 // Takes the next record off, where it may stand here and keeps the rules, and answers it with the section after it.
+#[tactic(auto, using(crate::proofs::Faults::broken))]
 pub fn admit(
     reader: &mut Reader,
     section: Section,
     past: Tables,
 ) -> Result<(Record, Section), RecordFault>
-    ensures same { reader.new.bytes.now ≡ reader.old.bytes.now }
-    ensures cases { MatchResult result (λ x. Admitted section (content_of past.entry) reader.old.bytes.now reader.old.place reader.new.place x)
-        (λ f. RecordNo section (content_of past.entry) (drop reader.old.place reader.old.bytes.now) reader.old.place f) }
+    ensures same { SameBytes reader.old reader.new }
+    ensures cases { MatchResult result (Admitted section (content_of past.entry) reader.old reader.new)
+        (RecordNo section (content_of past.entry) (rest_of reader.old) reader.old.place) }
 {
     let place = reader.place();
     let next = advance(section, reader.kind()?, place)?;

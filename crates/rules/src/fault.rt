@@ -1,6 +1,6 @@
 // A fault of the record layer, with one of the byte layer whole.
-ghost use Rattle.rules.specs.Refusals.{by_records, record_fault_of, record_refusal};
 ghost use Rattle.std.specs.Prelude.{◌≡◌};
+ghost use Rattle.rules.specs.Refusals.{record_fault_of, record_refusal};
 
 use format::fault::{ByteFault, Layer, Refusal};
 
@@ -14,34 +14,23 @@ pub enum RecordFault {
 }
 
 impl From<ByteFault> for RecordFault {
-    ghost from_gives = { λ x y. y ≡ record_fault_of x };
+    ghost from_gives = { λ byte_fault fault. fault ≡ record_fault_of byte_fault };
 
-    fn from(f: ByteFault) -> RecordFault {
-        RecordFault::Bytes(f)
+    fn from(fault: ByteFault) -> RecordFault {
+        RecordFault::Bytes(fault)
     }
 }
 
-// A refusal by this layer.
-fn at(number: u8, place: usize) -> Refusal
-    ensures { result ≡ by_records number place }
-{
-    Refusal {
-        number,
-        place,
-        layer: Layer::Records,
-    }
-}
+impl From<RecordFault> for Refusal {
+    ghost from_gives = { λ fault refusal. refusal ≡ record_refusal fault };
 
-impl RecordFault {
-    pub fn refusal(&self) -> Refusal
-        ensures { result ≡ record_refusal self.now }
-    {
-        match self {
-            RecordFault::Bytes(f) => f.refusal(),
-            RecordFault::Misplaced { place } => at(5, *place),
-            RecordFault::Full { place } => at(7, *place),
-            RecordFault::Range { place } => at(8, *place),
-            RecordFault::Repeat { place } => at(9, *place),
+    fn from(fault: RecordFault) -> Refusal {
+        match fault {
+            RecordFault::Bytes(fault) => fault.into(),
+            RecordFault::Misplaced { place } => Layer::Records.refusal(5, place),
+            RecordFault::Full { place } => Layer::Records.refusal(7, place),
+            RecordFault::Range { place } => Layer::Records.refusal(8, place),
+            RecordFault::Repeat { place } => Layer::Records.refusal(9, place),
         }
     }
 }

@@ -1,30 +1,59 @@
-// The entries of the six tables.
+// The entries of the six tables. A default entry is blank: all zero, a group without parent.
+ghost use Rattle.rules.specs.Contents.{RuleGiven};
 
 // The parent byte of a group without parent: a dredger.
 pub const NO_PARENT: u8 = 255;
 
 // `name` is the place of the name's first byte in the deck. `dredger` is the group without parent that is reached by following parents.
-#[derive(Clone, Copy, PartialEq, Eq, Debug)]
+#[derive(Clone, Copy, PartialEq, Eq, Debug, Default)]
 pub struct Group {
-    pub parent: u8,
+    pub parent: Option<u8>,
     pub capacity: u16,
     pub name: usize,
     pub dredger: u8,
 }
 
-#[derive(Clone, Copy, PartialEq, Eq, Debug)]
-pub struct Seat {
-    pub dredger: u8,
-    pub rule: u8,
+// In which order a seat takes its dredger's wishes: by rank; by lower lot, then lower number; by lower term, then rank.
+#[derive(Clone, Copy, PartialEq, Eq, Debug, Default)]
+pub enum Rule {
+    #[default]
+    Rank,
+    Lot,
+    Term,
 }
 
+// A byte that stands for no rule.
 #[derive(Clone, Copy, PartialEq, Eq, Debug)]
+pub struct UnknownRule(pub u8);
+
+impl TryFrom<u8> for Rule {
+    type Error = UnknownRule;
+
+    ghost try_from_gives = { RuleGiven };
+
+    fn try_from(byte: u8) -> Result<Rule, UnknownRule> {
+        match byte {
+            0 => Ok(Rule::Rank),
+            1 => Ok(Rule::Lot),
+            2 => Ok(Rule::Term),
+            _ => Err(UnknownRule(byte)),
+        }
+    }
+}
+
+#[derive(Clone, Copy, PartialEq, Eq, Debug, Default)]
+pub struct Seat {
+    pub dredger: u8,
+    pub rule: Rule,
+}
+
+#[derive(Clone, Copy, PartialEq, Eq, Debug, Default)]
 pub struct Reservation {
     pub dredger: u8,
     pub seats: u16,
 }
 
-#[derive(Clone, Copy, PartialEq, Eq, Debug)]
+#[derive(Clone, Copy, PartialEq, Eq, Debug, Default)]
 pub struct Trainee {
     pub lot: u16,
     pub flag: bool,
@@ -32,7 +61,7 @@ pub struct Trainee {
 }
 
 // One wish of one trainee for one group, with that trainee's lot and flag.
-#[derive(Clone, Copy, PartialEq, Eq, Debug)]
+#[derive(Clone, Copy, PartialEq, Eq, Debug, Default)]
 pub struct Contract {
     pub trainee: u16,
     pub group: u8,
@@ -43,53 +72,14 @@ pub struct Contract {
     pub flag: bool,
 }
 
-#[derive(Clone, Copy, PartialEq, Eq, Debug)]
+#[derive(Clone, Copy, PartialEq, Eq, Debug, Default)]
 pub struct Barring {
     pub trainee: u16,
     pub dredger: u8,
 }
 
-// Blank entries: all zero, a group without parent.
-pub const NO_GROUP: Group = Group {
-    parent: 255,
-    capacity: 0,
-    name: 0,
-    dredger: 0,
-};
-
-pub const NO_SEAT: Seat = Seat {
-    dredger: 0,
-    rule: 0,
-};
-
-pub const NO_RESERVATION: Reservation = Reservation {
-    dredger: 0,
-    seats: 0,
-};
-
-pub const NO_TRAINEE: Trainee = Trainee {
-    lot: 0,
-    flag: false,
-    name: 0,
-};
-
-pub const NO_CONTRACT: Contract = Contract {
-    trainee: 0,
-    group: 0,
-    dredger: 0,
-    points: 0,
-    term: 0,
-    lot: 0,
-    flag: false,
-};
-
-pub const NO_BARRING: Barring = Barring {
-    trainee: 0,
-    dredger: 0,
-};
-
 // The six tables, for reading.
-#[derive(Clone, Copy)]
+#[derive(Clone, Copy, PartialEq, Eq, Debug)]
 pub struct Tables<'a> {
     pub groups: &'a [Group],
     pub seats: &'a [Seat],

@@ -1,5 +1,5 @@
 pub mod Bests
+pub mod Rows
 pub mod Lefts
-pub mod Beginnings
 pub mod Fronts
 pub mod Sittings

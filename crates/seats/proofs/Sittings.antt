@@ -1,72 +1,40 @@
 -- The seats, one after another.
-use Rattle.std.proofs.Common.{◌≡◌, ℕ, ◌+◌, ◌<◌, ◌≤◌, Bool, true, false, cond, not, ◌&&◌, ◌||◌, eqb, List, ◌∷◌, length, get_or, drop, set, Ok, Err, Option, Result, sym, refl, ap, ◌∙◌, subst, ap₂, ⊎_elim, get_or-set_other, get_or-set_same}
+use Rattle.std.proofs.Common.{◌≡◌, ℕ, ◌+◌, ◌<◌, ◌≤◌, Bool, true, false, not, ◌&&◌, ◌||◌, List, ◌∷◌, length, get_or, drop, Some, None, Option, sym, refl, ap, ◌∙◌}
 use mathlib.Core.Path.{fun_ext}
-use Rattle.std.proofs.lemmas.Bool.{cases_eq, eq-eqb, ne_eqb, and_parts, false≢true}
+use Rattle.std.proofs.lemmas.Bool.{and_parts, false≢true}
 use Rattle.std.proofs.lemmas.List.{drop_more, drop_all}
 use Rattle.rules.specs.declared.table.Contract.{Contract}
+use Rattle.rules.specs.declared.table.Rule.{Rule}
+use Rattle.rules.specs.declared.table.Rule.TheVariants.{Rank, Lot, Term}
 use Rattle.rules.specs.declared.table.Seat.{Seat}
-use Rattle.rules.specs.Contents.{contract_at, zero_seat}
-use Rattle.matching.specs.Sets.{Set, Part, minus, union}
-use Rattle.matching.specs.Choices.{first}
+use Rattle.rules.specs.Contents.{zero_seat}
+use Rattle.deck.specs.Contents.{data_of}
+use Rattle.board.specs.declared.marked.Marked.{Marked}
+use Rattle.board.specs.Marked.{contracts_of, deck_of, list_of}
+use Rattle.matching.specs.Sets.{Set, Part, minus, less, union}
 use Rattle.matching.proofs.Sets.{and_true, or_false, minus_of}
-use Rattle.board.specs.declared.unfit.Unfit.{Unfit}
-use Rattle.board.specs.Marks.{member}
-use Rattle.ranking.specs.Rank.{prefers, better, lower_lot, lower_term}
 use Rattle.seats.specs.declared.lineup.Lineup.{Lineup}
 use Rattle.seats.specs.declared.lineups.Lineups.{Lineups}
-use Rattle.seats.specs.Taking.{at, takes, seated}
-use Rattle.seats.specs.Ready.{Is, Gives}
-use Rattle.seats.specs.Seating.{Prepared, Serves}
+use Rattle.seats.specs.Taking.{takes, seated}
+use Rattle.seats.specs.Ready.{Is, Takes}
+use Rattle.seats.specs.Lineups.{Prepared, Stands}
 use Rattle.seats.proofs.Lefts.{ready_less}
 
--- every other rule goes by rank
-pub other_rule : (rule : ℕ) → (rule ≡ 1 → ⊥) → (rule ≡ 2 → ⊥) → prefers 0 ≡ prefers rule
-other_rule rule a b =
-    ap₂ (λ x y c d i j. cond x (lower_lot c d i j) (cond y (lower_term c d i j) (better c d i j))) (sym (ne_eqb rule 1 a)) (sym (ne_eqb rule 2 b))
+stands_less : (rule : Rule) (rest more : Marked) (o : Option Lineup) → deck_of rest ≡ deck_of more → Part (list_of rest) (list_of more) → Stands rule more o → Stands rule rest o
+stands_less rule rest more None e p h = tt
+stands_less rule rest more (Some l) e p h = ready_less rule rest more l e p h
 
-and_no : (a : Bool) → (a && false) ≡ false
-and_no true = refl
-and_no false = refl
-
--- the one contract of Z is taken out
-pub out_one : (xs : List ℕ) (k : ℕ) (Z : Set) → k < length xs → ((j : ℕ) → Z j ≡ eqb j k) → member (set xs k 0) ≡ minus (member xs) Z
-out_one xs k Z l h = fun_ext (λ j. ⊎_elim (λ e. here j e) (λ ne. other j ne) (cases_eq j k))
-  where
-    here : (j : ℕ) → j ≡ k → member (set xs k 0) j ≡ minus (member xs) Z j
-    here j e =
-        ap (λ i. member (set xs k 0) i) e ∙ ap (λ x. not (eqb x 0)) (get_or-set_same xs k 0 0 l)
-        ∙ sym (ap (λ t. member xs j && not t) (h j ∙ eq-eqb j k e) ∙ and_no (member xs j))
-
-    other : (j : ℕ) → (j ≡ k → ⊥) → member (set xs k 0) j ≡ minus (member xs) Z j
-    other j ne =
-        ap (λ x. not (eqb x 0)) (get_or-set_other xs k j 0 0 ne)
-        ∙ sym (ap (λ t. member xs j && not t) (h j ∙ ne_eqb j k ne) ∙ and_true (member xs j))
-
--- there is none
-pub out_none : (X Z : Set) → ((j : ℕ) → Z j ≡ false) → X ≡ minus X Z
-out_none X Z h = fun_ext (λ j. sym (ap (λ t. X j && not t) (h j) ∙ and_true (X j)))
-
-pub prepared_less : (cs : List Contract) (R S : Set) (ls : Lineups) → Part S R → Prepared cs R ls → Prepared cs S ls
-prepared_less cs R S ls p h = record {
-  by_rank = h.by_rank;
-  by_lot = h.by_lot;
-  by_term = h.by_term;
-  rank = λ e. ready_less cs R S ls.rank p (h.rank e);
-  lot = λ e. ready_less cs R S ls.lot p (h.lot e);
-  term = λ e. ready_less cs R S ls.term p (h.term e);
+prepared_less : (rest more : Marked) (ls : Lineups) → deck_of rest ≡ deck_of more → Part (list_of rest) (list_of more) → Prepared more ls → Prepared rest ls
+prepared_less rest more ls e p h = record {
+  rank = stands_less Rank rest more ls.rank e p h.rank;
+  lot = stands_less Lot rest more ls.lot e p h.lot;
+  term = stands_less Term rest more ls.term e p h.term;
 }
 
 -- after i seats R is left of X: what is missing, with what the other seats take of R, is what all take of X
 pub record Seating (ss : List Seat) (cs : List Contract) (X R : Set) (i : ℕ) : Type 0 where
   pub part : Part R X
   pub whole : union (minus X R) (seated (drop i ss) cs R) ≡ seated ss cs X
-
-pub seating_none : (ss : List Seat) (cs : List Contract) (X : Set) → Seating ss cs X X 0
-seating_none ss cs X = record { part = λ k e. e; whole = fun_ext (λ j. ap (λ t. t || seated ss cs X j) (nought (X j))) }
-  where
-    nought : (a : Bool) → (a && not a) ≡ false
-    nought true = refl
-    nought false = refl
 
 missing : (x r t z : Bool) → (r ≡ true → x ≡ true) → (t ≡ true → r ≡ true) → ((x && not (r && not t)) || z) ≡ ((x && not r) || (t || z))
 missing true true true z a b = refl
@@ -77,7 +45,7 @@ missing false true t z a b = absurd (false≢true (a refl))
 missing false false true z a b = absurd (false≢true (b refl))
 missing false false false z a b = refl
 
-pub seating_more : (ss : List Seat) (cs : List Contract) (X R R' : Set) (i : ℕ) (s : Seat) → i < length ss → get_or ss i zero_seat ≡ s → Seating ss cs X R i
+seating_more : (ss : List Seat) (cs : List Contract) (X R R' : Set) (i : ℕ) (s : Seat) → i < length ss → get_or ss i zero_seat ≡ s → Seating ss cs X R i
     → R' ≡ minus R (takes s cs R) → Seating ss cs X R' (i + 1)
 seating_more ss cs X R R' i s l g h e = record {
   part = λ k r. h.part k (minus_of R (takes s cs R) k (sym (ap (λ Z. Z k) e) ∙ r));
@@ -88,17 +56,45 @@ seating_more ss cs X R R' i s l g h e = record {
       ∙ h.whole;
 }
 
-pub seating_all : (ss : List Seat) (cs : List Contract) (X R : Set) (i : ℕ) → length ss ≤ i → Seating ss cs X R i → minus X R ≡ seated ss cs X
+seating_all : (ss : List Seat) (cs : List Contract) (X R : Set) (i : ℕ) → length ss ≤ i → Seating ss cs X R i → minus X R ≡ seated ss cs X
 seating_all ss cs X R i l h =
     fun_ext (λ j. sym (or_false (minus X R j))) ∙ sym (ap (λ qs. union (minus X R) (seated qs cs R)) (drop_all i ss l)) ∙ h.whole
 
--- a lineup by rank serves a seat with any other rule
-pub serves_rank : (cs : List Contract) (R : Set) (s : Seat) (ls : Lineups) (l : Lineup) (r : Result (Option ℕ) Unfit) → (s.rule ≡ 1 → ⊥) → (s.rule ≡ 2 → ⊥)
-    → Prepared cs R ls → Gives cs R s.dredger ls.rank l r → Serves cs R s (record { rank = l; lot = ls.lot; term = ls.term }) r
-serves_rank cs R s ls l (Ok k) a b h g =
-    let P : (Contract → Contract → ℕ → ℕ → Bool) → Type 0 =
-    λ f. Is (length cs) (first (length cs) (at cs s.dredger) (λ i j. f (contract_at cs i) (contract_at cs j) i j) (λ j. 1) R) k in (
-      subst P (ap prefers h.by_rank ∙ other_rule s.rule a b) g.0,
-      record { by_rank = g.2 ∙ h.by_rank; by_lot = h.by_lot; by_term = h.by_term; rank = g.1; lot = h.lot; term = h.term },
-    )
-serves_rank cs R s ls l (Err e) a b h g = g
+-- the one contract of Z is taken out, if there is one
+out_one : (n k : ℕ) (X Z : Set) → Is n Z (Some k) → less X k ≡ minus X Z
+out_one n k X Z h = fun_ext (λ j. ap (λ t. X j && not t) (sym (h.1 j)))
+
+out_none : (n : ℕ) (X Z : Set) → Is n Z None → X ≡ minus X Z
+out_none n X Z h = fun_ext (λ j. sym (ap (λ t. X j && not t) (h j) ∙ and_true (X j)))
+
+-- i seats have taken of the list that was first
+pub record Sitting (ss : List Seat) (first rest : Marked) (ls : Lineups) (i : ℕ) : Type 0 where
+  pub deck : deck_of rest ≡ deck_of first
+  pub seating : Seating ss (contracts_of first) (list_of first) (list_of rest) i
+  pub prepared : Prepared rest ls
+
+sitting_more : (ss : List Seat) (first more rest : Marked) (ls ms : Lineups) (i : ℕ) (s : Seat) → i < length ss → get_or ss i zero_seat ≡ s
+    → Sitting ss first more ls i → deck_of rest ≡ deck_of more → list_of rest ≡ minus (list_of more) (takes s (contracts_of more) (list_of more))
+    → Prepared more ms → Sitting ss first rest ms (i + 1)
+sitting_more ss first more rest ls ms i s l g h d e p = record {
+  deck = d ∙ h.deck;
+  seating = seating_more ss (contracts_of first) (list_of first) (list_of more) (list_of rest) i s l g h.seating
+      (e ∙ ap (λ x. minus (list_of more) (takes s (data_of x).contracts (list_of more))) h.deck);
+  prepared = prepared_less rest more ms d
+      (λ k r. minus_of (list_of more) (takes s (contracts_of more) (list_of more)) k (sym (ap (λ (Z : Set). Z k) e) ∙ r)) p;
+}
+
+pub sitting_some : (ss : List Seat) (first more rest : Marked) (ls ms : Lineups) (i k : ℕ) (s : Seat) → i < length ss → get_or ss i zero_seat ≡ s
+    → Sitting ss first more ls i → deck_of rest ≡ deck_of more → list_of rest ≡ less (list_of more) k
+    → Takes s more (Some k) → Prepared more ms → Sitting ss first rest ms (i + 1)
+sitting_some ss first more rest ls ms i k s l g h d e b p =
+    sitting_more ss first more rest ls ms i s l g h d (e ∙ out_one (length (contracts_of more)) k (list_of more) (takes s (contracts_of more) (list_of more)) b) p
+
+pub sitting_same : (ss : List Seat) (first more : Marked) (ls ms : Lineups) (i : ℕ) (s : Seat) → i < length ss → get_or ss i zero_seat ≡ s
+    → Sitting ss first more ls i → Takes s more None → Prepared more ms → Sitting ss first more ms (i + 1)
+sitting_same ss first more ls ms i s l g h b p =
+    sitting_more ss first more more ls ms i s l g h refl (out_none (length (contracts_of more)) (list_of more) (takes s (contracts_of more) (list_of more)) b) p
+
+pub sitting_all : (ss : List Seat) (first rest : Marked) (ls : Lineups) (i : ℕ) → length ss ≤ i → Sitting ss first rest ls i
+    → minus (list_of first) (list_of rest) ≡ seated ss (contracts_of first) (list_of first)
+sitting_all ss first rest ls i l h = seating_all ss (contracts_of first) (list_of first) (list_of rest) i l h.seating

@@ -1,8 +1,8 @@
 -- What one seat takes, said without counting.
-use Rattle.std.specs.Prelude.{◌≡◌, ℕ, ◌<◌, true, List, length, ◌≢◌}
+use Rattle.std.specs.Prelude.{◌≡◌, ℕ, true, List, All, length, ◌≢◌}
 use Rattle.rules.specs.declared.table.Contract.{Contract}
 use Rattle.rules.specs.declared.table.Seat.{Seat}
-use Rattle.rules.specs.Contents.{contract_at, seat_at}
+use Rattle.rules.specs.Contents.{contract_at}
 use Rattle.matching.specs.Sets.{Set, Within}
 use Rattle.seats.specs.Taking.{before, takes}
 
@@ -17,6 +17,6 @@ pub record Follows (s : Seat) : Type 0 where
   pub best : (cs : List Contract) (X : Set) → Within (length cs) X → (k : ℕ) → takes s cs X k ≡ true → Best s cs X k
   pub taken : (cs : List Contract) (X : Set) → Within (length cs) X → (k : ℕ) → Best s cs X k → takes s cs X k ≡ true
 
--- each of the first n seats does
-abbrev pub AllFollow : List Seat → ℕ → Type 0
-AllFollow ss n = (i : ℕ) → i < n → Follows (seat_at ss i)
+-- each of the seats does
+abbrev pub AllFollow : List Seat → Type 0
+AllFollow ss = All Follows ss

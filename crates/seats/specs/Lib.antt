@@ -1,5 +1,7 @@
 pub mod Taking
 pub mod Best
+pub mod Rows
 pub mod Ready
-pub mod Seating
+pub mod Lineups
+pub mod Seats
 pub mod SeatLaws

@@ -1,7 +1,8 @@
 -- What seats take is a lawful choice.
-use Rattle.std.specs.Prelude.{ℕ, List, [], ◌∷◌, length, refl}
+use Rattle.std.specs.Prelude.{List, [], ◌∷◌, length, refl}
 use Rattle.std.proofs.lemmas.Bool.{false≢true}
 use Rattle.rules.specs.declared.table.Contract.{Contract}
+use Rattle.rules.specs.declared.table.Rule.{Rule}
 use Rattle.rules.specs.declared.table.Seat.{Seat}
 use Rattle.rules.specs.Contents.{contract_at}
 use Rattle.matching.specs.Choices.{Lawful, Strict}
@@ -10,7 +11,7 @@ use Rattle.matching.proofs.Made.{over-lawful}
 use Rattle.seats.specs.Taking.{at, before, takes, seated}
 use Rattle.ranking.proofs.Orderings.{rules_order}
 
-pub rule_strict : (cs : List Contract) (rule : ℕ) → Strict (before cs rule) (λ k. 1)
+pub rule_strict : (cs : List Contract) (rule : Rule) → Strict (before cs rule) (λ k. 1)
 rule_strict cs rule = record {
   irreflexive = λ i. (rules_order rule).irreflexive (contract_at cs i) i;
   transitive = λ i j k. (rules_order rule).transitive (contract_at cs i) (contract_at cs j) (contract_at cs k) i j k;

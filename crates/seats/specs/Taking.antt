@@ -1,6 +1,7 @@
 -- What seats take of a list.
 use Rattle.std.specs.Prelude.{ℕ, Bool, List, [], ◌∷◌, length, ◌==◌}
 use Rattle.rules.specs.declared.table.Contract.{Contract}
+use Rattle.rules.specs.declared.table.Rule.{Rule}
 use Rattle.rules.specs.declared.table.Seat.{Seat}
 use Rattle.rules.specs.Contents.{contract_at}
 use Rattle.matching.specs.Sets.{Set, none}
@@ -12,11 +13,11 @@ abbrev pub at : List Contract → ℕ → Set
 at cs dredger k = (contract_at cs k).dredger == dredger
 
 -- contract i comes before contract j by a rule
-abbrev pub before : List Contract → ℕ → ℕ → ℕ → Bool
+abbrev pub before : List Contract → Rule → ℕ → ℕ → Bool
 before cs rule i j = prefers rule (contract_at cs i) (contract_at cs j) i j
 
 -- the first contract at a dredger by a rule
-abbrev pub first_at : ℕ → ℕ → List Contract → Choice
+abbrev pub first_at : ℕ → Rule → List Contract → Choice
 first_at dredger rule cs = first (length cs) (at cs dredger) (before cs rule) (λ k. 1)
 
 -- a seat takes the first contract at its dredger, by its rule

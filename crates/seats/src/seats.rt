@@ -1,15 +1,65 @@
-// The seats of a board.
-ghost use Rattle.std.specs.Prelude.{◌≡◌, ◌≤◌, length};
+// The seats of a board, and seating.
+ghost use Rattle.std.specs.Prelude.{◌≡◌, IsTrue};
+ghost use Rattle.deck.specs.Contents.{data_of};
+ghost use Rattle.seats.specs.Best.{AllFollow};
 
-mod calls;
-
+use crate::lineups::Lineups;
+use arrayvec::ArrayVec;
+use board::marked::Marked;
+use board::unfit::Unfit;
+use deck::deck::Deck;
 use rules::table::Seat;
 
-// The first `count` are the seats, in list order.
+// The seats, in list order.
 #[derive(Drop)]
 pub struct Seats {
-    seats: [Seat; 256],
-    count: u16,
-    ghost few: { count ≤ 256 },
-    ghost whole: { length seats ≡ 256 },
+    seats: ArrayVec<Seat, 256>,
+}
+
+impl Seats {
+    ghost use Rattle.board.specs.Marked.{contracts_of, deck_of, list_of};
+    ghost use Rattle.matching.specs.Sets.{minus};
+    ghost use Rattle.seats.specs.Seats.{Left, seats_of};
+    ghost use Rattle.seats.specs.Taking.{seated};
+
+    // The seats of the deck, which has at most 256.
+    pub fn of(deck: &Deck) -> Seats
+        ensures { seats_of result ≡ (data_of deck.now).seats }
+    {
+        Seats {
+            seats: ArrayVec::try_from(deck.seats()).unwrap(),
+        }
+    }
+
+    // What one seat takes, in plain words.
+    #[tactic(auto, using(crate::proofs::Bests::follows))]
+    pub fn follow_their_rule(&self) -> bool
+        ensures told { IsTrue result }
+        ensures follow { AllFollow (seats_of self.now) }
+    {
+        true
+    }
+
+    // In list order each seat takes its contract out of the rest.
+    fn seat_all(&self, rest: &mut Marked)
+        ensures deck { deck_of rest.new ≡ deck_of rest.old }
+        ensures seated { minus (list_of rest.old) (list_of rest.new)
+            ≡ seated (seats_of self.now) (contracts_of rest.old) (list_of rest.old) }
+    {
+        let mut lineups = Lineups::default();
+        for seat in self.seats.iter() {
+            if let Some(k) = lineups.best(rest, seat) {
+                rest.take(k);
+            }
+        }
+    }
+
+    // What the seats leave of a list.
+    pub(crate) fn left<'a>(&self, deck: &'a Deck<'a>, marks: &[u8]) -> Result<Marked<'a>, Unfit>
+        ensures { Left (seats_of self.now) deck.now marks.now result }
+    {
+        let mut rest = Marked::of(deck, marks)?;
+        self.seat_all(&mut rest);
+        Ok(rest)
+    }
 }

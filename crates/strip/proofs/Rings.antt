@@ -1,7 +1,8 @@
 use Rattle.std.proofs.Common.{◌≡◌, ℕ, zero, suc, ◌+◌, ◌-◌, ◌<◌, ◌≤◌, ◌≢◌, List, [], ◌∷◌, ◌++◌, length, get_or, take, drop, set, sym, refl, ap, ◌∙◌, inl, inr, ⊎_elim, arith, length-append, length-drop, length-set, length-take}
 use Rattle.std.proofs.lemmas.List.{same_lists, get_or_append_left, get_or-append_right, get_or-take, get_or-drop, get_or-set_same, get_or-set_other, get_or_push, get_or_default, length_push, take_more}
 use Rattle.std.proofs.lemmas.Bool.{cases_eq, cases_lt}
-use Rattle.strip.specs.Ring.{ringed, Spot}
+use Rattle.strip.specs.Ring.{ringed, Ringed, Spot, row_of}
+use Rattle.strip.specs.Rows.{holding}
 
 pub spot_of : (n h k : ℕ) → h ≤ n → k < n → (at : ℕ) × Spot n h k at
 spot_of n h k p q = ⊎_elim
@@ -16,9 +17,9 @@ spots_apart n h k j a b p q s t ne e = ⊎_elim
     s.1
 
 module _ {X : Type 0} where
-  pub length-ringed : (m : List X) (h n : ℕ) → h ≤ length m → n ≤ length m → length (ringed m h n) ≡ n
+  pub length_ringed : (m : List X) (h n : ℕ) → h ≤ length m → n ≤ length m → length (ringed m h n) ≡ n
   unfolding ringed
-  length-ringed m h n p q = simp (length-take, length-drop, length-append) (omega arith)
+  length_ringed m h n p q = simp (length-take, length-drop, length-append) (omega arith)
 
   -- the k-th element of the ring
   pub get_or-ringed : (m : List X) (h n k at : ℕ) (d : X) → h ≤ length m → n ≤ length m → k < n → Spot (length m) h k at → get_or (ringed m h n) k d ≡ get_or m at d
@@ -30,9 +31,9 @@ module _ {X : Type 0} where
       (λ e. let le : length m ≤ h + k = omega arith in get_or-append_right m m (length m) (h + k) d refl le ∙ ap (λ i. get_or m i d) (omega arith))
       s.1
 
-  pub ringed_none : (m : List X) (h : ℕ) → ringed m h 0 ≡ []
+  pub ringed_none : (m : List X) (h n : ℕ) → n ≡ 0 → ringed m h n ≡ []
   unfolding ringed
-  ringed_none m h = refl
+  ringed_none m h n e = rw e refl
 
   pub ringed_put : (m : List X) (h n at : ℕ) (x : X) → h ≤ length m → n < length m → Spot (length m) h n at → ringed (set m at x) h (n + 1) ≡ ringed m h n ++ x ∷ []
   ringed_put m h n at x p q s =
@@ -40,8 +41,8 @@ module _ {X : Type 0} where
       let p' : h ≤ length (set m at x) = omega arith in
       let q' : n + 1 ≤ length (set m at x) = omega arith in
       let q'' : n ≤ length m = omega arith in
-      let l1 : length (ringed (set m at x) h (n + 1)) ≡ n + 1 = length-ringed (set m at x) h (n + 1) p' q' in
-      let l2 : length (ringed m h n) ≡ n = length-ringed m h n p q'' in
+      let l1 : length (ringed (set m at x) h (n + 1)) ≡ n + 1 = length_ringed (set m at x) h (n + 1) p' q' in
+      let l2 : length (ringed m h n) ≡ n = length_ringed m h n p q'' in
       same_lists _ _ (l1 ∙ sym (length_push (ringed m h n) x ∙ ap (λ i. i + 1) l2))
       (λ k d lt. ⊎_elim
       (λ (e : k ≡ n).
@@ -81,17 +82,27 @@ module _ {X : Type 0} where
 
   pub ringed_first : (m : List X) (h n at : ℕ) (d : X) → h ≤ length m → n < length m → Spot (length m) h 0 at → ringed m h (n + 1) ≡ get_or m at d ∷ ringed m (at + 1) n
   ringed_first m h n at d p q s =
-      let l1 : length (ringed m h (n + 1)) ≡ n + 1 = length-ringed m h (n + 1) p (omega arith) in
-      let l2 : length (ringed m (at + 1) n) ≡ n = length-ringed m (at + 1) n (omega (arith, s.0)) (omega arith) in
+      let l1 : length (ringed m h (n + 1)) ≡ n + 1 = length_ringed m h (n + 1) p (omega arith) in
+      let l2 : length (ringed m (at + 1) n) ≡ n = length_ringed m (at + 1) n (omega (arith, s.0)) (omega arith) in
       same_lists _ _ (omega arith) (λ k e lt. first_at m h n at d p q s k e (omega arith))
 
-  -- the same at a count that is not 0
-  pub ringed_newest : (m : List X) (h n at : ℕ) (d : X) → h ≤ length m → n ≤ length m → (n ≡ 0 → ⊥) → Spot (length m) h (n - 1) at → ringed m h n ≡ ringed m h (n - 1) ++ get_or m at d ∷ []
-  ringed_newest m h n at d p q ne s =
-      let e : n ≡ n - 1 + 1 = omega arith in
-      ap (λ i. ringed m h i) e ∙ ringed_last m h (n - 1) at d p (omega arith) s
+  pub count_ringed : (m : List X) (h n : ℕ) → Ringed m h n → length (ringed m h n) ≡ n
+  count_ringed m h n r = length_ringed m h n r.head_inside r.count_inside
 
-  pub ringed_oldest : (m : List X) (h n at : ℕ) (d : X) → h ≤ length m → n ≤ length m → (n ≡ 0 → ⊥) → Spot (length m) h 0 at → ringed m h n ≡ get_or m at d ∷ ringed m (at + 1) (n - 1)
-  ringed_oldest m h n at d p q ne s =
+  pub row_item : (m : List X) (h n k at : ℕ) (d : X) → Ringed m h n → k < n → Spot (length m) h k at → get_or m at d ≡ get_or (ringed m h n) k d
+  row_item m h n k at d r lt s = sym (get_or-ringed m h n k at d r.head_inside r.count_inside lt s)
+
+  pub row_put : (m : List X) (h n at : ℕ) (x : X) → Ringed m h n → n < length m → Spot (length m) h n at → row_of (set m at x) h (n + 1) ≡ holding (row_of m h n) (ringed m h n ++ x ∷ [])
+  row_put m h n at x r lt s = rw (length-set m at x, ringed_put m h n at x r.head_inside lt s) refl
+
+  pub row_newest : (m : List X) (h n at : ℕ) (d : X) → Ringed m h n → (n ≡ 0 → ⊥) → Spot (length m) h (n - 1) at → row_of m h n ≡ holding (row_of m h (n - 1)) (ringed m h (n - 1) ++ get_or m at d ∷ [])
+  row_newest m h n at d r ne s =
       let e : n ≡ n - 1 + 1 = omega arith in
-      ap (λ i. ringed m h i) e ∙ ringed_first m h (n - 1) at d p (omega arith) s
+      let lt : n - 1 < length m = omega (arith, r.count_inside) in
+      ap (λ xs. record { items = xs; places = length m }) (ap (λ i. ringed m h i) e ∙ ringed_last m h (n - 1) at d r.head_inside lt s)
+
+  pub row_oldest : (m : List X) (h n at : ℕ) (d : X) → Ringed m h n → (n ≡ 0 → ⊥) → Spot (length m) h 0 at → row_of m h n ≡ holding (row_of m (at + 1) (n - 1)) (get_or m at d ∷ ringed m (at + 1) (n - 1))
+  row_oldest m h n at d r ne s =
+      let e : n ≡ n - 1 + 1 = omega arith in
+      let lt : n - 1 < length m = omega (arith, r.count_inside) in
+      ap (λ xs. record { items = xs; places = length m }) (ap (λ i. ringed m h i) e ∙ ringed_first m h (n - 1) at d r.head_inside lt s)

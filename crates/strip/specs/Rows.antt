@@ -1,11 +1,11 @@
 -- What a strip holds.
-use Rattle.std.specs.Prelude.{ℕ, List, length}
-use Rattle.strip.specs.declared.row.Strip.{Strip}
-use Rattle.strip.specs.Ring.{ringed}
+use Rattle.std.specs.Prelude.{ℕ, List}
 
--- its items, the oldest first
-abbrev pub items : {X : Type 0} → Strip X → List X
-items s = ringed s.memory.now s.head s.count
+-- its items, the oldest first, and how many places there are for them
+pub record Row (X : Type 0) : Type 0 where
+  pub items : List X
+  pub places : ℕ
 
-abbrev pub places : {X : Type 0} → Strip X → ℕ
-places s = length s.memory.now
+-- the same places with other items
+abbrev pub holding : {X : Type 0} → Row X → List X → Row X
+holding r xs = record { items = xs; places = r.places }

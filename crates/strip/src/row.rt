@@ -1,10 +1,13 @@
 // A ring over lent memory: the oldest element at one end, the newest at the other.
-ghost use Rattle.std.specs.Prelude.{◌≡◌, ◌≤◌, length};
-ghost use Rattle.strip.specs.Ring.{ringed};
+#![tactic(auto, using(crate::proofs::Rings::ringed_none, crate::proofs::Rings::count_ringed))]
+
+ghost use Rattle.std.specs.Prelude.{◌≡◌, ◌+◌, ◌≤◌, [], length};
+ghost use Rattle.strip.specs.Ring.{Ringed, row_of};
+ghost use Rattle.strip.specs.Rows.{Row};
+
+use std::marker::Model;
 
 mod calls;
-mod counts;
-mod ring;
 
 // `count` elements of the memory from `head` on, going round its end.
 #[derive(Drop)]
@@ -12,9 +15,47 @@ pub struct Strip<'a, T: Copy> {
     memory: &'a mut [T],
     head: usize,
     count: usize,
-    ghost head_inside: { head ≤ length memory.now },
-    ghost count_inside: { count ≤ length memory.now },
-    ghost counted: { length (ringed memory.now head count) ≡ count },
+}
+
+impl<'a, T: Copy> Model for Strip<'a, T> {
+    ghost Value = { Row T };
+
+    ghost view = { λ s. row_of s.memory.now s.head s.count };
+
+    ghost invariant = { λ s. Ringed s.memory.now s.head s.count };
+}
+
+impl<'a, T: Copy> Strip<'a, T> {
+    // An empty strip, with as many places as the memory has.
+    pub fn new(memory: &'a mut [T]) -> Strip<'a, T>
+        ensures empty { result.items ≡ [] }
+        ensures places { result.places ≡ length memory.old }
+    {
+        Strip {
+            memory,
+            head: 0,
+            count: 0,
+        }
+    }
+
+    pub fn count(&self) -> usize
+        ensures { result ≡ length self.now.items }
+    {
+        self.count
+    }
+
+    pub fn places(&self) -> usize
+        ensures { result ≡ self.now.places }
+    {
+        self.memory.len()
+    }
+
+    // How many places are free: the items never outnumber the places.
+    pub fn free(&self) -> usize
+        ensures { result + length self.now.items ≡ self.now.places }
+    {
+        self.places() - self.count
+    }
 }
 
 // Why a strip takes no more.

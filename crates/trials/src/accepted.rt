@@ -1,6 +1,6 @@
 // Small decks that are accepted.
 use crate::case::{counts_of, judged};
-use crate::samples::{P, P_COUNTS, Q, Q_COUNTS};
+use crate::samples::{P, Q};
 use std::process::Abort;
 
 // A deck, and its counts: groups, seats, reserves, trainees, wishes, bars.
@@ -66,6 +66,6 @@ fn all_accepted(rt: &impl Abort, what: &str, cases: &[Good]) {
 fn parts_and_repeats(rt: HostRuntime) {
     all_accepted(&rt, "parts", &PARTS);
     all_accepted(&rt, "equals", &EQUALS);
-    assert_eq!(rt; judged(P), Ok(P_COUNTS));
-    assert_eq!(rt; judged(Q), Ok(Q_COUNTS));
+    assert_eq!(rt; judged(P.bytes), Ok(P.counts));
+    assert_eq!(rt; judged(Q.bytes), Ok(Q.counts));
 }

@@ -1,125 +1,90 @@
 // Binding decks into a place.
-use crate::book::{Book, LEAST};
 use crate::case::{counts_of, refusal};
-use crate::entries::LONGER;
-use crate::samples::{
-    P, P_COUNTS, Q, Q_BARS, Q_COUNTS, Q_RESERVES, Q_SEATS, p_contracts, p_groups, p_trainees,
-    q_contracts, q_groups, q_trainees,
-};
+use crate::samples::{E_ALONE, P, Q, Sample};
+use crate::tables::{EACH_TABLE, HeapTables, LEAST, LONGER};
 use deck::deck::Deck;
-use format::fault::Refusal;
 use intake::counts::Counts;
-use intake::fault::DeckFault;
-use std::alloc::Global;
+use std::fmt;
 use std::process::Abort;
 use std::test::Fail;
 
-fn told(answer: Result<(), DeckFault>) -> Result<(), Refusal> {
-    match answer {
-        Ok(()) => Ok(()),
-        Err(fault) => Err(fault.refusal()),
-    }
-}
-
-fn is_empty(place: Deck) -> bool {
-    place.bytes() == b"E\0\0".as_slice()
-        && place.groups().is_empty()
-        && place.seats().is_empty()
-        && place.reserves().is_empty()
-        && place.trainees().is_empty()
-        && place.contracts().is_empty()
-        && place.bars().is_empty()
-}
-
-fn is_p(place: Deck) -> bool {
-    place.bytes() == P
-        && place.groups() == p_groups().as_slice()
-        && place.seats().is_empty()
-        && place.reserves().is_empty()
-        && place.trainees() == p_trainees().as_slice()
-        && place.contracts() == p_contracts().as_slice()
-        && place.bars().is_empty()
-}
-
-fn is_q(place: Deck) -> bool {
-    place.bytes() == Q
-        && place.groups() == q_groups().as_slice()
-        && place.seats() == Q_SEATS.as_slice()
-        && place.reserves() == Q_RESERVES.as_slice()
-        && place.trainees() == q_trainees().as_slice()
-        && place.contracts() == q_contracts().as_slice()
-        && place.bars() == Q_BARS.as_slice()
+// Tables of these sizes that a sample was taken into.
+fn filled(
+    rt: &(impl Abort + AllocGlobal),
+    sizes: Counts,
+    sample: Sample,
+) -> Result<HeapTables, Fail> {
+    let mut tables = HeapTables::old(rt.alloc(), sizes)?;
+    assert_eq!(rt; tables.take(sample.bytes), Ok(sample.counts));
+    Ok(tables)
 }
 
 // A place holds E alone first, and then what was bound last.
 #[test]
 fn bound_decks_are_read(rt: HostRuntime) -> Result<(), Fail> {
-    let mut p_book = Book::old(rt.alloc(), LEAST)?;
-    let p_counts = p_book.take(P)?;
-    let mut q_book = Book::old(rt.alloc(), LONGER)?;
-    let q_counts = q_book.take(Q)?;
+    let p_tables = filled(&rt, LEAST, P)?;
+    let q_tables = filled(&rt, LONGER, Q)?;
+    let p = Sample {
+        tables: p_tables.tables(),
+        ..P
+    };
+    let q = Sample {
+        tables: q_tables.tables(),
+        ..Q
+    };
     let mut place = Deck::empty();
-    assert!(rt; is_empty(place));
-    assert_eq!(rt; told(place.bind(P, p_book.tables(), p_counts)), Ok(()));
-    assert!(rt; is_p(place));
-    assert_eq!(rt; told(place.bind(Q, q_book.tables(), q_counts)), Ok(()));
-    assert!(rt; is_q(place));
+    assert!(rt; E_ALONE.is_in(place));
+    assert_eq!(rt; p.bind(&mut place), Ok(()));
+    assert!(rt; P.is_in(place));
+    assert_eq!(rt; q.bind(&mut place), Ok(()));
+    assert!(rt; Q.is_in(place));
     Ok(())
 }
 
-fn book_of(
-    rt: &impl Abort,
-    what: &str,
-    heap: Global,
-    deck: &[u8],
-    counts: Counts,
-) -> Result<Book, Fail> {
-    let mut book = Book::old(heap, LEAST)?;
-    assert_eq!(rt; book.take(deck), Ok(counts), "{what}");
-    Ok(book)
-}
-
-// After P is bound with its tables, these bytes, tables and counts are refused, and the place keeps P.
+// What is offered to a place that has P is refused, and the place keeps P.
 fn check_unbound<'a>(
     rt: &impl Abort,
-    what: &str,
-    number: usize,
-    own: &'a Book,
-    deck: &'a [u8],
-    book: &'a Book,
-    counts: Counts,
+    what: impl fmt::Display + Drop,
+    own: &'a HeapTables,
+    offer: Sample<'a>,
 ) {
+    let p = Sample {
+        tables: own.tables(),
+        ..P
+    };
     let mut place = Deck::empty();
-    assert_eq!(rt;
-        told(place.bind(P, own.tables(), P_COUNTS)),
-        Ok(()),
-        "{what} {number}"
-    );
-    let answer = told(place.bind(deck, book.tables(), counts));
-    assert_eq!(rt; answer, Err(refusal(12, 0)), "{what} {number}");
-    assert_eq!(rt; place.groups().len(), 3, "{what} {number}");
-    assert!(rt; is_p(place), "{what} {number}");
+    assert_eq!(rt; p.bind(&mut place), Ok(()), "{what}");
+    assert_eq!(rt; offer.bind(&mut place), Err(refusal(12, 0)), "{what}");
+    assert_eq!(rt; place.groups().len(), 3, "{what}");
+    assert!(rt; P.is_in(place), "{what}");
 }
 
-// Q's tables with another entry at this place of each.
-fn check_marked(rt: &impl Abort, what: &str, heap: Global, at: usize) -> Result<(), Fail> {
-    let own = book_of(rt, what, heap, P, P_COUNTS)?;
-    for table in 0..6 {
-        let mut book = book_of(rt, what, heap, Q, Q_COUNTS)?;
-        book.mark(table, at);
-        check_unbound(rt, what, table, &own, Q, &book, Q_COUNTS);
-    }
-    Ok(())
+// The same of tables that are offered with Q's bytes and counts.
+fn check_tables(
+    rt: &impl Abort,
+    what: impl fmt::Display + Drop,
+    own: &HeapTables,
+    tables: &HeapTables,
+) {
+    let offer = Sample {
+        tables: tables.tables(),
+        ..Q
+    };
+    check_unbound(rt, what, own, offer);
 }
 
 // Entry 0 is an entry of Q in every table, 2 in all but the reserves and 3 in the groups alone; 4 and 63 are blank in every table.
 #[test]
 fn changed_entries_are_not_bound(rt: HostRuntime) -> Result<(), Fail> {
-    check_marked(&rt, "entry 0, table", rt.alloc(), 0)?;
-    check_marked(&rt, "entry 2, table", rt.alloc(), 2)?;
-    check_marked(&rt, "entry 3, table", rt.alloc(), 3)?;
-    check_marked(&rt, "entry 4, table", rt.alloc(), 4)?;
-    check_marked(&rt, "entry 63, table", rt.alloc(), 63)
+    let own = filled(&rt, LEAST, P)?;
+    for at in [0, 2, 3, 4, 63] {
+        for table in EACH_TABLE {
+            let mut marked = filled(&rt, LEAST, Q)?;
+            marked.mark(table, at);
+            check_tables(&rt, format_args!("entry {at} of {table:?}"), &own, &marked);
+        }
+    }
+    Ok(())
 }
 
 // Q's counts are 4, 3, 2, 3, 3, 3.
@@ -141,61 +106,72 @@ const OTHER_COUNTS: [[usize; 6]; 13] = [
 
 #[test]
 fn changed_counts_are_not_bound(rt: HostRuntime) -> Result<(), Fail> {
-    let own = book_of(&rt, "P", rt.alloc(), P, P_COUNTS)?;
-    let book = book_of(&rt, "Q", rt.alloc(), Q, Q_COUNTS)?;
+    let own = filled(&rt, LEAST, P)?;
+    let q_tables = filled(&rt, LEAST, Q)?;
     for (i, row) in OTHER_COUNTS.iter().enumerate() {
-        let counts = counts_of(*row);
-        check_unbound(&rt, "counts", i, &own, Q, &book, counts);
+        let offer = Sample {
+            tables: q_tables.tables(),
+            counts: counts_of(*row),
+            ..Q
+        };
+        check_unbound(&rt, format_args!("counts {i}"), &own, offer);
     }
     Ok(())
+}
+
+// The same of bytes that are offered with tables and Q's counts.
+fn check_bytes(rt: &impl Abort, what: &str, own: &HeapTables, bytes: &[u8], tables: &HeapTables) {
+    let offer = Sample {
+        bytes,
+        tables: tables.tables(),
+        ..Q
+    };
+    check_unbound(rt, what, own, offer);
 }
 
 // Bytes of another deck, and bytes that intake refuses.
 #[test]
 fn other_bytes_are_not_bound(rt: HostRuntime) -> Result<(), Fail> {
-    let heap = rt.alloc();
-    let own = book_of(&rt, "P", heap, P, P_COUNTS)?;
-    let mut book = book_of(&rt, "Q", heap, Q, Q_COUNTS)?;
-    let mut longer = Vec::from_slice(heap, Q)?;
+    let own = filled(&rt, LEAST, P)?;
+    let mut other = filled(&rt, LEAST, Q)?;
+    let mut longer = Vec::from_slice(rt.alloc(), Q.bytes)?;
     longer.push(0)?;
-    check_unbound(&rt, "P", 0, &own, P, &book, Q_COUNTS);
-    check_unbound(&rt, "E alone", 0, &own, b"E\0\0", &book, Q_COUNTS);
-    check_unbound(&rt, "Q and a byte", 0, &own, &longer, &book, Q_COUNTS);
-    assert_eq!(rt; book.take(b"X"), Err(refusal(4, 0)));
-    let none = counts_of([0, 0, 0, 0, 0, 0]);
-    check_unbound(
-        &rt,
-        "blank tables of a refused deck",
-        0,
-        &own,
-        b"X",
-        &book,
-        none,
-    );
+    check_bytes(&rt, "P", &own, P.bytes, &other);
+    check_bytes(&rt, "E alone", &own, E_ALONE.bytes, &other);
+    check_bytes(&rt, "Q and a byte", &own, &longer, &other);
+    assert_eq!(rt; other.take(b"X"), Err(refusal(4, 0)));
+    let offer = Sample {
+        bytes: b"X",
+        tables: other.tables(),
+        counts: Counts::default(),
+    };
+    check_unbound(&rt, "blank tables of a refused deck", &own, offer);
     Ok(())
 }
 
 // A table that intake refuses as too small, though Q's entries are in it.
 #[test]
 fn small_tables_are_not_bound(rt: HostRuntime) -> Result<(), Fail> {
-    let heap = rt.alloc();
-    let own = book_of(&rt, "P", heap, P, P_COUNTS)?;
-    let mut book = book_of(&rt, "Q", heap, Q, Q_COUNTS)?;
-    let _ = book.groups.pop();
-    check_unbound(&rt, "groups", 63, &own, Q, &book, Q_COUNTS);
-    let mut other = book_of(&rt, "Q", heap, Q, Q_COUNTS)?;
-    let _ = other.bars.pop();
-    check_unbound(&rt, "bars", 127, &own, Q, &other, Q_COUNTS);
+    let own = filled(&rt, LEAST, P)?;
+    let mut few_groups = filled(&rt, LEAST, Q)?;
+    let _ = few_groups.groups.pop();
+    check_tables(&rt, "63 groups", &own, &few_groups);
+    let mut few_bars = filled(&rt, LEAST, Q)?;
+    let _ = few_bars.bars.pop();
+    check_tables(&rt, "127 bars", &own, &few_bars);
     Ok(())
 }
 
 // A place that held nothing but E alone keeps that.
 #[test]
 fn an_empty_place_stays(rt: HostRuntime) -> Result<(), Fail> {
-    let book = Book::old(rt.alloc(), LEAST)?;
+    let old = HeapTables::old(rt.alloc(), LEAST)?;
+    let offer = Sample {
+        tables: old.tables(),
+        ..Q
+    };
     let mut place = Deck::empty();
-    let answer = told(place.bind(Q, book.tables(), Q_COUNTS));
-    assert_eq!(rt; answer, Err(refusal(12, 0)));
-    assert!(rt; is_empty(place));
+    assert_eq!(rt; offer.bind(&mut place), Err(refusal(12, 0)));
+    assert!(rt; E_ALONE.is_in(place));
     Ok(())
 }

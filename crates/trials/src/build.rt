@@ -1,5 +1,6 @@
 // Large decks, written by loops.
 use std::alloc::{AllocError, Global};
+use std::ops::Range;
 
 // How many records of each kind a deck has; wishes and bars are those of each trainee.
 #[derive(Clone, Copy)]
@@ -11,6 +12,15 @@ pub struct Shape {
     pub wishes: u8,
     pub bars: u8,
 }
+
+pub const NOTHING: Shape = Shape {
+    groups: 0,
+    seats: 0,
+    reserves: 0,
+    trainees: 0,
+    wishes: 0,
+    bars: 0,
+};
 
 // Groups without parent.
 fn add_groups(deck: &mut Vec<u8>, n: u8) -> Result<(), AllocError> {
@@ -49,14 +59,13 @@ fn add_bars(deck: &mut Vec<u8>, n: u8) -> Result<(), AllocError> {
 }
 
 // Trainees with these lots, each with so many wishes, and then so many bars; those with an odd lot have a flag.
-pub fn add_trainees(
+fn add_trainees(
     deck: &mut Vec<u8>,
-    first: u16,
-    end: u16,
+    lots: Range<u16>,
     wishes: u8,
     bars: u8,
 ) -> Result<(), AllocError> {
-    for lot in first..end {
+    for lot in lots {
         let [low, high] = lot.to_le_bytes();
         deck.extend_from_slice(&[b'T', low, high, low % 2])?;
         deck.extend_from_slice(b"TRAINEE ")?;
@@ -72,7 +81,7 @@ pub fn built(heap: Global, shape: Shape) -> Result<Vec<u8>, AllocError> {
     add_groups(&mut deck, shape.groups)?;
     add_seats(&mut deck, shape.seats)?;
     add_reserves(&mut deck, shape.reserves)?;
-    add_trainees(&mut deck, 0, shape.trainees, shape.wishes, shape.bars)?;
+    add_trainees(&mut deck, 0..shape.trainees, shape.wishes, shape.bars)?;
     Ok(deck)
 }
 
@@ -89,6 +98,6 @@ pub fn largest(heap: Global) -> Result<Vec<u8>, AllocError> {
             bars: 1,
         },
     )?;
-    add_trainees(&mut deck, 128, 256, 8, 0)?;
+    add_trainees(&mut deck, 128..256, 8, 0)?;
     Ok(deck)
 }

@@ -1,13 +1,18 @@
 // What the rules say of a deck, and what intake says.
 use format::fault::{Layer, Refusal};
+use intake::book::Book;
 use intake::counts::Counts;
-use intake::intake::intake;
-use rules::table::{NO_BARRING, NO_CONTRACT, NO_GROUP, NO_RESERVATION, NO_SEAT, NO_TRAINEE};
 use std::process::Abort;
 
 // A deck that is refused, with the number and the place of its fault.
 #[derive(Clone, Copy)]
 pub struct Case(pub &'static [u8], pub u8, pub usize);
+
+impl Case {
+    pub fn refusal(&self) -> Refusal {
+        refusal(self.1, self.2)
+    }
+}
 
 // The layer that each question belongs to.
 fn layer_of(number: u8) -> Layer {
@@ -26,7 +31,7 @@ pub fn refusal(number: u8, place: usize) -> Refusal {
     }
 }
 
-// Groups, seats, reserves, trainees, wishes, bars.
+// Groups, seats, reserves, trainees, wishes, bars: a row of numbers is plainer in a list of cases than a struct.
 pub fn counts_of(row: [usize; 6]) -> Counts {
     let [groups, seats, reserves, trainees, wishes, bars] = row;
     Counts {
@@ -41,33 +46,11 @@ pub fn counts_of(row: [usize; 6]) -> Counts {
 
 // Intake's answer, with tables of the least size.
 pub fn judged(deck: &[u8]) -> Result<Counts, Refusal> {
-    let mut groups = [NO_GROUP; 64];
-    let mut seats = [NO_SEAT; 256];
-    let mut reserves = [NO_RESERVATION; 64];
-    let mut trainees = [NO_TRAINEE; 256];
-    let mut contracts = [NO_CONTRACT; 2048];
-    let mut bars = [NO_BARRING; 128];
-    match intake(
-        deck,
-        &mut groups,
-        &mut seats,
-        &mut reserves,
-        &mut trainees,
-        &mut contracts,
-        &mut bars,
-    ) {
-        Ok(counts) => Ok(counts),
-        Err(fault) => Err(fault.refusal()),
-    }
-}
-
-// `what` and `at` say which deck it is.
-pub fn refused(rt: &impl Abort, what: &str, at: usize, deck: &[u8], fault: Refusal) {
-    assert_eq!(rt; judged(deck), Err(fault), "{what} {at}");
+    Book::default().take_in(deck).map_err(Refusal::from)
 }
 
 pub fn all_refused(rt: &impl Abort, what: &str, cases: &[Case]) {
     for (i, case) in cases.iter().enumerate() {
-        refused(rt, what, i, case.0, refusal(case.1, case.2));
+        assert_eq!(rt; judged(case.0), Err(case.refusal()), "{what}, case {i}");
     }
 }

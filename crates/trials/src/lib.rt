@@ -22,4 +22,8 @@ mod limits;
 #[cfg(test)]
 mod long;
 #[cfg(test)]
+mod names;
+#[cfg(test)]
 mod samples;
+#[cfg(test)]
+mod tables;

@@ -1,22 +1,10 @@
-// Decks with as many records of a kind as there may be, and one more.
-use crate::book::{Book, LEAST};
-use crate::build::{Shape, built, largest};
-use crate::case::{Case, counts_of, judged, refusal, refused};
-use crate::samples::{contract, group, trainee};
-use rules::table::{Barring, Reservation, Seat};
-use std::alloc::Global;
+// Decks with as many records of a kind as there may be, and one more. Each list of cases has the ends of decks of one shape.
+use crate::build::{NOTHING, Shape, built, largest};
+use crate::case::{Case, counts_of, judged, refusal};
+use crate::tables::{HeapTables, LEAST};
+use rules::table::{Barring, Contract, Group, Reservation, Rule, Seat, Trainee};
 use std::process::Abort;
 use std::test::Fail;
-
-// Each table of cases has the ends of decks of one shape.
-const NOTHING: Shape = Shape {
-    groups: 0,
-    seats: 0,
-    reserves: 0,
-    trainees: 0,
-    wishes: 0,
-    bars: 0,
-};
 
 // 768 bytes.
 const GROUPS: Shape = Shape {
@@ -109,29 +97,27 @@ const BAR_ENDS: [Case; 4] = [
 ];
 
 fn ends_refused(
-    rt: &impl Abort,
+    rt: &(impl Abort + AllocGlobal),
     what: &str,
-    heap: Global,
     shape: Shape,
     ends: &[Case],
 ) -> Result<(), Fail> {
     for (i, end) in ends.iter().enumerate() {
-        let mut deck = built(heap, shape)?;
+        let mut deck = built(rt.alloc(), shape)?;
         deck.extend_from_slice(end.0)?;
-        refused(rt, what, i, &deck, refusal(end.1, end.2));
+        assert_eq!(rt; judged(&deck), Err(end.refusal()), "{what}, end {i}");
     }
     Ok(())
 }
 
 #[test]
 fn one_more_than_the_most(rt: HostRuntime) -> Result<(), Fail> {
-    let heap = rt.alloc();
-    ends_refused(&rt, "groups", heap, GROUPS, &GROUP_ENDS)?;
-    ends_refused(&rt, "seats", heap, SEATS, &SEAT_ENDS)?;
-    ends_refused(&rt, "reserves", heap, RESERVES, &RESERVE_ENDS)?;
-    ends_refused(&rt, "trainees", heap, TRAINEES, &TRAINEE_ENDS)?;
-    ends_refused(&rt, "wishes", heap, WISHES, &WISH_ENDS)?;
-    ends_refused(&rt, "bars", heap, BARS, &BAR_ENDS)
+    ends_refused(&rt, "groups", GROUPS, &GROUP_ENDS)?;
+    ends_refused(&rt, "seats", SEATS, &SEAT_ENDS)?;
+    ends_refused(&rt, "reserves", RESERVES, &RESERVE_ENDS)?;
+    ends_refused(&rt, "trainees", TRAINEES, &TRAINEE_ENDS)?;
+    ends_refused(&rt, "wishes", WISHES, &WISH_ENDS)?;
+    ends_refused(&rt, "bars", BARS, &BAR_ENDS)
 }
 
 // A shape, the E that closes its deck, and the counts.
@@ -158,29 +144,45 @@ fn exactly_the_most(rt: HostRuntime) -> Result<(), Fail> {
 }
 
 // The last entry of each table, after the largest deck.
-fn check_lasts(rt: &impl Abort, book: &Book) {
-    assert_eq!(rt; book.groups.last().copied(), Some(group(255, 1, 760, 63)));
+fn check_lasts(rt: &impl Abort, tables: &HeapTables) {
+    let group = Group {
+        parent: None,
+        capacity: 1,
+        name: 760,
+        dredger: 63,
+    };
+    assert_eq!(rt; tables.groups.last().copied(), Some(group));
     let seat = Seat {
         dredger: 63,
-        rule: 0,
+        rule: Rule::Rank,
     };
-    assert_eq!(rt; book.seats.last().copied(), Some(seat));
+    assert_eq!(rt; tables.seats.last().copied(), Some(seat));
     let reserve = Reservation {
         dredger: 63,
         seats: 319,
     };
-    assert_eq!(rt; book.reserves.last().copied(), Some(reserve));
-    assert_eq!(rt;
-        book.trainees.last().copied(),
-        Some(trainee(255, true, 15312))
-    );
-    let last = contract((255, 255, true), 7, 7, 7, 7);
-    assert_eq!(rt; book.contracts.last().copied(), Some(last));
+    assert_eq!(rt; tables.reserves.last().copied(), Some(reserve));
+    let trainee = Trainee {
+        lot: 255,
+        flag: true,
+        name: 15312,
+    };
+    assert_eq!(rt; tables.trainees.last().copied(), Some(trainee));
+    let contract = Contract {
+        trainee: 255,
+        group: 7,
+        dredger: 7,
+        points: 7,
+        term: 7,
+        lot: 255,
+        flag: true,
+    };
+    assert_eq!(rt; tables.contracts.last().copied(), Some(contract));
     let bar = Barring {
         trainee: 127,
         dredger: 0,
     };
-    assert_eq!(rt; book.bars.last().copied(), Some(bar));
+    assert_eq!(rt; tables.bars.last().copied(), Some(bar));
 }
 
 #[test]
@@ -188,11 +190,11 @@ fn largest_deck(rt: HostRuntime) -> Result<(), Fail> {
     let mut deck = largest(rt.alloc())?;
     deck.extend_from_slice(b"E\0\x08")?;
     assert_eq!(rt; deck.len(), 15363);
-    let mut book = Book::old(rt.alloc(), LEAST)?;
-    assert_eq!(rt; book.take(&deck), Ok(LEAST));
-    check_lasts(&rt, &book);
+    let mut tables = HeapTables::old(rt.alloc(), LEAST)?;
+    assert_eq!(rt; tables.take(&deck), Ok(LEAST));
+    check_lasts(&rt, &tables);
     deck.push(0)?;
-    assert_eq!(rt; book.take(&deck), Err(refusal(2, 0)));
+    assert_eq!(rt; tables.take(&deck), Err(refusal(2, 0)));
     Ok(())
 }
 
@@ -217,7 +219,7 @@ fn ends_of_the_largest(rt: HostRuntime) -> Result<(), Fail> {
     for (i, end) in LARGEST_ENDS.iter().enumerate() {
         let mut deck = front.clone()?;
         deck.extend_from_slice(end.0)?;
-        refused(&rt, "end", i, &deck, refusal(end.1, end.2));
+        assert_eq!(rt; judged(&deck), Err(end.refusal()), "end {i}");
     }
     Ok(())
 }

@@ -1,5 +1,5 @@
 // Decks of the most bytes that a deck has, and of one more.
-use crate::case::{Case, refusal, refused};
+use crate::case::{Case, judged, refusal};
 use std::alloc::{AllocError, Global};
 use std::test::Fail;
 
@@ -27,9 +27,9 @@ fn padded(heap: Global, front: &[u8], size: usize) -> Result<Vec<u8>, AllocError
 fn long_and_too_long(rt: HostRuntime) -> Result<(), Fail> {
     for (i, front) in FRONTS.iter().enumerate() {
         let deck = padded(rt.alloc(), front.0, 15363)?;
-        refused(&rt, "front", i, &deck, refusal(front.1, front.2));
+        assert_eq!(rt; judged(&deck), Err(front.refusal()), "front {i}");
         let longer = padded(rt.alloc(), front.0, 15364)?;
-        refused(&rt, "longer front", i, &longer, refusal(2, 0));
+        assert_eq!(rt; judged(&longer), Err(refusal(2, 0)), "longer front {i}");
     }
     Ok(())
 }

@@ -1,9 +1,64 @@
-// Two small decks, with where their records begin and what they leave in the tables.
+// Two small decks and the one of E alone, with where the records of the two begin.
+use deck::deck::Deck;
+use format::fault::Refusal;
 use intake::counts::Counts;
-use rules::table::{Barring, Contract, Group, Reservation, Seat, Trainee};
+use rules::table::{Barring, Contract, Group, Reservation, Rule, Seat, Tables, Trainee};
+
+// A deck's bytes, with tables and counts that may be its own.
+#[derive(Clone, Copy)]
+pub struct Sample<'a> {
+    pub bytes: &'a [u8],
+    pub tables: Tables<'a>,
+    pub counts: Counts,
+}
+
+impl<'a> Sample<'a> {
+    // Binds it into a place.
+    pub fn bind(self, place: &mut Deck<'a>) -> Result<(), Refusal> {
+        place
+            .bind(self.bytes, self.tables, self.counts)
+            .map_err(Refusal::from)
+    }
+
+    // Whether a place has its bytes and entries.
+    pub fn is_in(self, place: Deck) -> bool {
+        place.bytes() == self.bytes
+            && Tables {
+                groups: place.groups(),
+                seats: place.seats(),
+                reserves: place.reserves(),
+                trainees: place.trainees(),
+                contracts: place.contracts(),
+                bars: place.bars(),
+            } == self.tables
+    }
+}
+
+pub const NO_ENTRIES: Tables<'static> = Tables {
+    groups: &[],
+    seats: &[],
+    reserves: &[],
+    trainees: &[],
+    contracts: &[],
+    bars: &[],
+};
+
+pub const E_ALONE: Sample<'static> = Sample {
+    bytes: b"E\0\0",
+    tables: NO_ENTRIES,
+    counts: Counts {
+        groups: 0,
+        seats: 0,
+        reserves: 0,
+        trainees: 0,
+        wishes: 0,
+        bars: 0,
+    },
+};
 
 // Deck P of the rules: three groups, three trainees with two wishes each.
-pub const P: &[u8] = b"G\xff\x02\0HERON   \
+pub const P: Sample<'static> = Sample {
+    bytes: b"G\xff\x02\0HERON   \
     G\0\x01\0ENGINE  \
     G\xff\x01\0TERN    \
     T\x03\0\0ADA     \
@@ -15,21 +70,120 @@ pub const P: &[u8] = b"G\xff\x02\0HERON   \
     T\x02\0\0CAI     \
     W\x02\x3c\0\0\
     W\0\x1e\0\0\
-    E\x06\0";
+    E\x06\0",
+    tables: Tables {
+        groups: &[
+            Group {
+                parent: None,
+                capacity: 2,
+                name: 4,
+                dredger: 0,
+            },
+            Group {
+                parent: Some(0),
+                capacity: 1,
+                name: 16,
+                dredger: 0,
+            },
+            Group {
+                parent: None,
+                capacity: 1,
+                name: 28,
+                dredger: 2,
+            },
+        ],
+        seats: &[],
+        reserves: &[],
+        trainees: &[
+            Trainee {
+                lot: 3,
+                flag: false,
+                name: 40,
+            },
+            Trainee {
+                lot: 1,
+                flag: true,
+                name: 62,
+            },
+            Trainee {
+                lot: 2,
+                flag: false,
+                name: 84,
+            },
+        ],
+        contracts: &[
+            Contract {
+                trainee: 0,
+                group: 1,
+                dredger: 0,
+                points: 50,
+                term: 0,
+                lot: 3,
+                flag: false,
+            },
+            Contract {
+                trainee: 0,
+                group: 2,
+                dredger: 2,
+                points: 70,
+                term: 0,
+                lot: 3,
+                flag: false,
+            },
+            Contract {
+                trainee: 1,
+                group: 1,
+                dredger: 0,
+                points: 60,
+                term: 0,
+                lot: 1,
+                flag: true,
+            },
+            Contract {
+                trainee: 1,
+                group: 2,
+                dredger: 2,
+                points: 40,
+                term: 0,
+                lot: 1,
+                flag: true,
+            },
+            Contract {
+                trainee: 2,
+                group: 2,
+                dredger: 2,
+                points: 60,
+                term: 0,
+                lot: 2,
+                flag: false,
+            },
+            Contract {
+                trainee: 2,
+                group: 0,
+                dredger: 0,
+                points: 30,
+                term: 0,
+                lot: 2,
+                flag: false,
+            },
+        ],
+        bars: &[],
+    },
+    counts: Counts {
+        groups: 3,
+        seats: 0,
+        reserves: 0,
+        trainees: 3,
+        wishes: 6,
+        bars: 0,
+    },
+};
 
 pub const P_STARTS: [usize; 13] = [0, 12, 24, 36, 48, 53, 58, 70, 75, 80, 92, 97, 102];
 
-pub const P_COUNTS: Counts = Counts {
-    groups: 3,
-    seats: 0,
-    reserves: 0,
-    trainees: 3,
-    wishes: 6,
-    bars: 0,
-};
-
 // Records of every kind, two of each at least, and fields at both ends of their ranges.
-pub const Q: &[u8] = b"G\xff\x02\0HERON   \
+pub const Q: Sample<'static> = Sample {
+    bytes: b"G\xff\x02\0HERON   \
     G\0\x01\0ENGINE  \
     G\xff\xff\xffTERN~~~~\
     G\x01\0\0        \
@@ -47,142 +201,129 @@ pub const Q: &[u8] = b"G\xff\x02\0HERON   \
     T\xff\xff\0CAI     \
     W\0\x2c\x01\x05\
     B\0\
-    E\x03\0";
+    E\x03\0",
+    tables: Tables {
+        groups: &[
+            Group {
+                parent: None,
+                capacity: 2,
+                name: 4,
+                dredger: 0,
+            },
+            Group {
+                parent: Some(0),
+                capacity: 1,
+                name: 16,
+                dredger: 0,
+            },
+            Group {
+                parent: None,
+                capacity: 65535,
+                name: 28,
+                dredger: 2,
+            },
+            Group {
+                parent: Some(1),
+                capacity: 0,
+                name: 40,
+                dredger: 0,
+            },
+        ],
+        seats: &[
+            Seat {
+                dredger: 0,
+                rule: Rule::Lot,
+            },
+            Seat {
+                dredger: 2,
+                rule: Rule::Rank,
+            },
+            Seat {
+                dredger: 0,
+                rule: Rule::Term,
+            },
+        ],
+        reserves: &[
+            Reservation {
+                dredger: 2,
+                seats: 256,
+            },
+            Reservation {
+                dredger: 0,
+                seats: 3,
+            },
+        ],
+        trainees: &[
+            Trainee {
+                lot: 513,
+                flag: true,
+                name: 69,
+            },
+            Trainee {
+                lot: 0,
+                flag: false,
+                name: 95,
+            },
+            Trainee {
+                lot: 65535,
+                flag: false,
+                name: 107,
+            },
+        ],
+        contracts: &[
+            Contract {
+                trainee: 0,
+                group: 3,
+                dredger: 0,
+                points: 65535,
+                term: 9,
+                lot: 513,
+                flag: true,
+            },
+            Contract {
+                trainee: 0,
+                group: 2,
+                dredger: 2,
+                points: 0,
+                term: 0,
+                lot: 513,
+                flag: true,
+            },
+            Contract {
+                trainee: 2,
+                group: 0,
+                dredger: 0,
+                points: 300,
+                term: 5,
+                lot: 65535,
+                flag: false,
+            },
+        ],
+        bars: &[
+            Barring {
+                trainee: 0,
+                dredger: 2,
+            },
+            Barring {
+                trainee: 0,
+                dredger: 0,
+            },
+            Barring {
+                trainee: 2,
+                dredger: 0,
+            },
+        ],
+    },
+    counts: Counts {
+        groups: 4,
+        seats: 3,
+        reserves: 2,
+        trainees: 3,
+        wishes: 3,
+        bars: 3,
+    },
+};
 
 pub const Q_STARTS: [usize; 19] = [
     0, 12, 24, 36, 48, 51, 54, 57, 61, 65, 77, 79, 84, 89, 91, 103, 115, 120, 122,
-];
-
-pub const Q_COUNTS: Counts = Counts {
-    groups: 4,
-    seats: 3,
-    reserves: 2,
-    trainees: 3,
-    wishes: 3,
-    bars: 3,
-};
-
-pub fn group(parent: u8, capacity: u16, name: usize, dredger: u8) -> Group {
-    Group {
-        parent,
-        capacity,
-        name,
-        dredger,
-    }
-}
-
-pub fn trainee(lot: u16, flag: bool, name: usize) -> Trainee {
-    Trainee { lot, flag, name }
-}
-
-// The owner's number is given with their lot and flag.
-pub fn contract(
-    (trainee, lot, flag): (u16, u16, bool),
-    group: u8,
-    dredger: u8,
-    points: u16,
-    term: u8,
-) -> Contract {
-    Contract {
-        trainee,
-        group,
-        dredger,
-        points,
-        term,
-        lot,
-        flag,
-    }
-}
-
-pub fn p_groups() -> [Group; 3] {
-    [
-        group(255, 2, 4, 0),
-        group(0, 1, 16, 0),
-        group(255, 1, 28, 2),
-    ]
-}
-
-pub fn p_trainees() -> [Trainee; 3] {
-    [
-        trainee(3, false, 40),
-        trainee(1, true, 62),
-        trainee(2, false, 84),
-    ]
-}
-
-pub fn p_contracts() -> [Contract; 6] {
-    [
-        contract((0, 3, false), 1, 0, 50, 0),
-        contract((0, 3, false), 2, 2, 70, 0),
-        contract((1, 1, true), 1, 0, 60, 0),
-        contract((1, 1, true), 2, 2, 40, 0),
-        contract((2, 2, false), 2, 2, 60, 0),
-        contract((2, 2, false), 0, 0, 30, 0),
-    ]
-}
-
-pub fn q_groups() -> [Group; 4] {
-    [
-        group(255, 2, 4, 0),
-        group(0, 1, 16, 0),
-        group(255, 65535, 28, 2),
-        group(1, 0, 40, 0),
-    ]
-}
-
-pub const Q_SEATS: [Seat; 3] = [
-    Seat {
-        dredger: 0,
-        rule: 1,
-    },
-    Seat {
-        dredger: 2,
-        rule: 0,
-    },
-    Seat {
-        dredger: 0,
-        rule: 2,
-    },
-];
-
-pub const Q_RESERVES: [Reservation; 2] = [
-    Reservation {
-        dredger: 2,
-        seats: 256,
-    },
-    Reservation {
-        dredger: 0,
-        seats: 3,
-    },
-];
-
-pub fn q_trainees() -> [Trainee; 3] {
-    [
-        trainee(513, true, 69),
-        trainee(0, false, 95),
-        trainee(65535, false, 107),
-    ]
-}
-
-pub fn q_contracts() -> [Contract; 3] {
-    [
-        contract((0, 513, true), 3, 0, 65535, 9),
-        contract((0, 513, true), 2, 2, 0, 0),
-        contract((2, 65535, false), 0, 0, 300, 5),
-    ]
-}
-
-pub const Q_BARS: [Barring; 3] = [
-    Barring {
-        trainee: 0,
-        dredger: 2,
-    },
-    Barring {
-        trainee: 0,
-        dredger: 0,
-    },
-    Barring {
-        trainee: 2,
-        dredger: 0,
-    },
 ];

@@ -3,11 +3,6 @@ use line::log::{TurnedDown, note as noted};
 use std::process::Abort;
 use strip::row::{Full, Strip};
 
-const BLANK: TurnedDown = TurnedDown {
-    contract: 0,
-    offers: 0,
-};
-
 // A contract may be noted again, and the offers need not rise by one.
 const ENTRIES: [TurnedDown; 4] = [
     TurnedDown {
@@ -45,7 +40,7 @@ fn note_entries<'a>(rt: &impl Abort, log: &mut Strip<'a, TurnedDown>) {
 
 #[test]
 fn a_log_keeps_its_order(rt: HostRuntime) {
-    let mut memory = [BLANK; 5];
+    let mut memory = [TurnedDown::default(); 5];
     let mut log = Strip::new(&mut memory);
     note_entries(&rt, &mut log);
     holds_entries(&rt, &log);
@@ -54,7 +49,7 @@ fn a_log_keeps_its_order(rt: HostRuntime) {
 
 #[test]
 fn a_full_log_keeps_all(rt: HostRuntime) {
-    let mut memory = [BLANK; 4];
+    let mut memory = [TurnedDown::default(); 4];
     let mut log = Strip::new(&mut memory);
     note_entries(&rt, &mut log);
     assert_eq!(rt; noted(&mut log, 1, 1), Err(Full::NoPlace));

@@ -1,39 +1,22 @@
 // A line of another kind: it takes the one with the lowest number.
-ghost use Rattle.std.specs.Prelude.{◌≡◌, ◌<◌, ◌≤◌, length, take};
+#![tactic(auto, using(crate::proofs::Rows::joins_last, crate::proofs::Rows::takes_one))]
+
 ghost use Rattle.moves.specs.Moves.{any};
 
 use crate::lines::{joined, taken, tells};
+use arrayvec::ArrayVec;
 use line::all::{drain, join_all};
 use line::line::Line;
 use strip::row::Full;
 
-// The first `used` of the cells wait, in no order.
+// They wait in no order.
 #[derive(Drop)]
 pub struct Lowest {
-    cells: [u16; 8],
-    used: usize,
-    ghost few: { used ≤ 8 },
-    ghost whole: { length cells ≡ 8 },
-}
-
-// Where the first of the lowest stands.
-fn lowest_of(cells: &[u16]) -> usize
-    requires { 0 < length cells.now }
-    ensures { result < length cells.now }
-{
-    let mut at = 0;
-    for i in 1..cells.len() {
-        if cells[i] < cells[at] {
-            at = i;
-        }
-    }
-    at
+    trainees: ArrayVec<u16, 8>,
 }
 
 impl Line for Lowest {
-    ghost places = { λ _. 8 };
-
-    ghost waiting = { λ s. take s.used s.cells };
+    ghost waiting = { λ s. record { items = s.trainees.items; places = 8 } };
 
     // Of who joins and who is taken no more is said than the bag says.
     ghost joins = { any };
@@ -41,26 +24,12 @@ impl Line for Lowest {
     ghost takes = { any };
 
     fn join(&mut self, trainee: u16) -> Result<(), Full> {
-        if self.used >= 8 {
-            return Err(Full::NoPlace);
-        }
-        let at = self.used;
-        self.cells[at] = trainee;
-        self.used = at + 1;
-        Ok(())
+        self.trainees.try_push(trainee).map_err(|_| Full::NoPlace)
     }
 
-    // The last moves to the place of the one who is taken.
     fn take(&mut self) -> Option<u16> {
-        if self.used == 0 {
-            return None;
-        }
-        let at = lowest_of(&self.cells[0..self.used]);
-        let last = self.used - 1;
-        let trainee = self.cells[at];
-        self.cells[at] = self.cells[last];
-        self.used = last;
-        Some(trainee)
+        let (at, _) = self.trainees.iter().enumerate().min_by_key(|(_, t)| **t)?;
+        Some(self.trainees.remove(at))
     }
 
     fn places(&self) -> usize {
@@ -68,15 +37,14 @@ impl Line for Lowest {
     }
 
     fn count(&self) -> usize {
-        self.used
+        self.trainees.len()
     }
 }
 
 #[test]
 fn a_line_by_number(rt: HostRuntime) {
     let mut line = Lowest {
-        cells: [9; 8],
-        used: 0,
+        trainees: ArrayVec::new(),
     };
     tells(&rt, &line, 8, 0);
     joined(&rt, &mut line, &[5, 2]);

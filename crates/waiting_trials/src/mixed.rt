@@ -1,18 +1,11 @@
 // Many moves of a strip beside a plain list of what it should hold.
-use crate::sample::Sample;
+use crate::sample::{Elements, Sample};
 use line::log::TurnedDown;
 use std::alloc::Global;
 use std::fmt::Debug;
 use std::process::Abort;
 use std::test::Fail;
 use strip::row::{Full, Strip};
-
-#[derive(Clone, Copy, Debug)]
-enum Elements {
-    Bytes,
-    Numbers,
-    Pairs,
-}
 
 // Where a trial stands: what the strip has, how many places, and which turn it is.
 #[derive(Clone, Copy, Debug)]
@@ -91,7 +84,6 @@ fn turn<'a, T: Sample + Copy + PartialEq + Debug + Drop>(
 fn follows<T: Sample + Copy + Clone + PartialEq + Debug + Drop>(
     rt: &impl Abort,
     heap: Global,
-    elements: Elements,
     places: usize,
 ) -> Result<(), Fail> {
     let mut memory = vec![in heap; T::of(0); places]?;
@@ -100,7 +92,7 @@ fn follows<T: Sample + Copy + Clone + PartialEq + Debug + Drop>(
     let mut x: u8 = 0;
     for i in 0..256 {
         let at = Stage {
-            elements,
+            elements: T::ELEMENTS,
             places,
             turn: i,
         };
@@ -114,17 +106,16 @@ fn follows<T: Sample + Copy + Clone + PartialEq + Debug + Drop>(
 fn all_follow<T: Sample + Copy + Clone + PartialEq + Debug + Drop>(
     rt: &impl Abort,
     heap: Global,
-    elements: Elements,
 ) -> Result<(), Fail> {
-    follows::<T>(rt, heap, elements, 0)?;
-    follows::<T>(rt, heap, elements, 1)?;
-    follows::<T>(rt, heap, elements, 2)?;
-    follows::<T>(rt, heap, elements, 7)
+    for places in [0, 1, 2, 7] {
+        follows::<T>(rt, heap, places)?;
+    }
+    Ok(())
 }
 
 #[test]
 fn strips_follow_a_list(rt: HostRuntime) -> Result<(), Fail> {
-    all_follow::<u8>(&rt, rt.alloc(), Elements::Bytes)?;
-    all_follow::<u16>(&rt, rt.alloc(), Elements::Numbers)?;
-    all_follow::<TurnedDown>(&rt, rt.alloc(), Elements::Pairs)
+    all_follow::<u8>(&rt, rt.alloc())?;
+    all_follow::<u16>(&rt, rt.alloc())?;
+    all_follow::<TurnedDown>(&rt, rt.alloc())
 }

@@ -4,8 +4,8 @@ use Rattle.deck.proofs.deck.Deck.made.Goals as goal
 
 pub invariant_of-result : goal.invariant_of-result
 invariant_of-result c =
-    let s = dealt_sound c.args.bytes.now (content_of c.args.entries) c.requires in
-    let f = dealt_few c.args.bytes.now (content_of c.args.entries) c.requires in
+    let s = dealt_sound c.args.bytes.now (content_of c.args.tables) c.requires in
+    let f = dealt_few c.args.bytes.now (content_of c.args.tables) c.requires in
     record {
       lawful = ∣ c.requires ∣₁;
       few_groups = f.groups;
@@ -14,14 +14,13 @@ invariant_of-result c =
       few_trainees = f.trainees;
       few_contracts = f.contracts;
       few_bars = f.bars;
-      earlier = λ g lt. (s.groups g lt).earlier;
+      earlier = λ g p lt. (s.groups g lt).earlier p;
       own = λ g lt. (s.groups g lt).own;
-      inherited = λ g lt. (s.groups g lt).inherited;
+      inherited = λ g p lt. (s.groups g lt).inherited p;
       topped = λ g lt. (s.groups g lt).topped;
       group_names = λ g lt. (s.groups g lt).named.0;
       groups_printed = λ g i h. (s.groups g h.0).named.1 i h.1;
-      seats_given = λ k lt. (s.seats k lt).given;
-      seat_rules = λ k lt. (s.seats k lt).rule;
+      seats_given = s.seats;
       reserves_given = s.reserves;
       reserves_apart = s.reserves_apart;
       trainee_names = λ t lt. (s.trainees t lt).0;

@@ -1,33 +1,21 @@
-use Rattle.std.proofs.Common.{refl, arith}
-use Rattle.board.specs.Marks.{member}
+use Rattle.std.proofs.Common.{arith, rules}
+use Rattle.board.specs.Marked.{contracts_of, list_of, marks_of}
 use Rattle.board.proofs.Marking.{member-within}
-use Rattle.seats.proofs.Lefts.{moved, found_best, found_none, said_equal, said_apart}
+use Rattle.seats.proofs.Rows.{holds_rises, points_moved}
+use Rattle.seats.proofs.Lefts.{first_given}
 use Rattle.seats.proofs.lineup.Lineup.best.Goals as goal
-use Rattle.seats.proofs.lineup.Lineup.best.Goals.{else-p-self-via-then-p-self+else-is_at, else-p-self-via-else-p-self}
 
-pub returns-then-is_at : goal.returns-then-is_at
-returns-then-is_at c =
-    let cs = c.args.deck.now.contracts.now in
-    let R = member c.args.rest.now in
-    let l = c.args.self.now in
-    record {
-      best = found_best cs R l c.args.dredger c.find-p.result (omega arith) c.requires.was_ready c.find-p.ensures
-          (member-within c.args.rest.now _ c.requires.fits) (omega arith) (said_equal c.is_at.result _ _ c.is_at.ensures c.if-is_at.true);
-      ready = record { holds = c.requires.was_ready.holds; points = moved cs R l c.args.dredger c.find-p.result (omega arith) c.requires.was_ready c.find-p.ensures };
-      rule = refl;
-    }
+pub find-first-requires-clause-rises : goal.find-first-requires-clause-rises
+find-first-requires-clause-rises c = holds_rises _ _ _ _ c.requires.holds
 
-pub returns-else-p-self : goal.returns-else-p-self
-returns-else-p-self c =
-    let cs = c.args.deck.now.contracts.now in
-    let R = member c.args.rest.now in
-    let l = c.args.self.now in
-    record {
-      best = found_none cs R l c.args.dredger c.find-p.result (omega arith) c.requires.was_ready c.find-p.ensures
-          (λ q d. elim c.else-p-self.branch [
-            | else-p-self-via-then-p-self+else-is_at w ↦ said_apart w.is_at.result _ _ w.is_at.ensures w.if-is_at.false d
-            | else-p-self-via-else-p-self w ↦ omega arith
-          ]);
-      ready = record { holds = c.requires.was_ready.holds; points = moved cs R l c.args.dredger c.find-p.result (omega arith) c.requires.was_ready c.find-p.ensures };
-      rule = refl;
-    }
+pub returns-clause-best : goal.returns-clause-best
+returns-clause-best c =
+    first_given c.args.seat.now (contracts_of c.args.rest.now) (list_of c.args.rest.now) c.args.self.now.numbers.items c.requires.holds
+    c.find-first.result c.map.result _ (member-within (marks_of c.args.rest.now) _ c.args.rest.now.fits) c.find-first.ensures c.map.ensures.cases
+    (λ x r q. search rules)
+
+pub returns-clause-ready : goal.returns-clause-ready
+returns-clause-ready c = record {
+  holds = c.requires.holds;
+  points = points_moved _ _ _ _ c.find-first.result _ _ (omega arith) c.from-place.ensures c.requires.points c.find-first.ensures;
+}

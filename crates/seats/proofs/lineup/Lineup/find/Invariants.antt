@@ -1,12 +1,7 @@
-use Rattle.std.proofs.Common.{◌≡◌, ℕ, ◌-◌, ◌<◌, ◌≤◌, false}
-use Rattle.board.specs.Marks.{member}
-use Rattle.seats.specs.Ready.{nth, dredger_at}
+use Rattle.std.proofs.Common.{◌+◌}
+use Rattle.board.specs.Marked.{contracts_of, list_of}
+use Rattle.seats.specs.Rows.{Passed}
 use Rattle.seats.proofs.lineup.Lineup.find.Given as goal
 
-abbrev pub invariant-loop-p : goal.invariant-loop-p
-invariant-loop-p l =
-    (nth l.self.next l.dredger ≤ l.p) × (l.p ≤ l.self.count)
-    × ((i : ℕ) → i < l.p → dredger_at l.deck.contracts.now l.self.numbers i ≡ l.dredger → member l.rest (nth l.self.numbers i) ≡ false)
-
-abbrev pub decreases-loop-p : goal.decreases-loop-p
-decreases-loop-p l = l.self.count - l.p
+abbrev pub invariant-loop-i : goal.invariant-loop-i
+invariant-loop-i l = Passed (contracts_of l.rest) (list_of l.rest) l.self.numbers.items (l.from + l.i) l.dredger

@@ -1,0 +1,34 @@
+-- Writing all marks of a copy.
+use Rattle.std.proofs.Common.{◌≡◌, ℕ, not, List, length, ◌∙◌, ap, arith}
+use Rattle.std.specs.List.{refill}
+use Rattle.std.proofs.lemmas.Bool.{and_parts}
+use Rattle.std.proofs.lemmas.Grind.{common_steps}
+use Rattle.matching.specs.Sets.{Set, common, minus}
+use Rattle.board.specs.Marks.{member, marked}
+use Rattle.board.proofs.Marking.{length_marked, member-within, member-marked}
+
+-- as many marks as there were are all that is there afterwards
+refilled : (n : ℕ) (xs ws : List ℕ) → length ws ≡ n → refill n xs ws ≡ ws
+refilled n xs ws e = grind (arith, common_steps)
+
+-- xs are the marks, ds what was lent of them, and ws what came back
+pub all_kept : (n : ℕ) (xs ds ws : List ℕ) (p : Set) → ds ≡ xs → length xs ≡ n → length ws ≡ length ds
+    → ws ≡ marked (length ds) (common (member ds) p) → refill (length xs) xs ws ≡ marked n (common (member xs) p)
+all_kept n xs ds ws p e l m w =
+    refilled (length xs) xs ws (m ∙ ap length e) ∙ w ∙ ap (λ ys. marked (length ys) (common (member ys) p)) e
+    ∙ ap (λ i. marked i (common (member xs) p)) l
+
+-- what a test keeps of marks
+pub kept_common : (p : Set) (n : ℕ) (xs ys : List ℕ) → length xs ≡ n → ys ≡ marked n (common (member xs) p) → member ys ≡ common (member xs) p
+kept_common p n xs ys l e =
+    ap member e ∙ member-marked n (common (member xs) p) (λ k h. member-within xs n l k (and_parts (member xs k) (p k) h).0)
+
+-- where just what is not in B was kept, B is struck
+pub kept_without : (B : Set) (n : ℕ) (xs ys : List ℕ) → length xs ≡ n → ys ≡ marked n (common (member xs) (λ k. not (B k))) → member ys ≡ minus (member xs) B
+kept_without B = kept_common (λ k. not (B k))
+
+-- the same of a copy xs of the marks zs, where B was read for C
+pub copied_without : (B C : Set) (m n : ℕ) (xs ys zs : List ℕ) → length xs ≡ m → m ≡ n → xs ≡ zs → B ≡ C → ys ≡ marked m (common (member xs) (λ k. not (B k)))
+    → (length ys ≡ n) × (member ys ≡ minus (member zs) C)
+copied_without B C m n xs ys zs l e s b h =
+    (ap length h ∙ length_marked m (common (member xs) (λ k. not (B k))) ∙ e, kept_without B m xs ys l h ∙ ap (λ (us : List ℕ). minus (member us) B) s ∙ ap (λ (D : Set). minus (member zs) D) b)
