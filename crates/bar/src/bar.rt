@@ -11,6 +11,7 @@ use board::marks::{fit, is_listed};
 use board::unfit::Unfit;
 use deck::deck::Deck;
 
+// A type of its own beside the other layer, which holds another table.
 #[derive(Drop)]
 pub struct Bar<C> {
     below: C,
@@ -65,7 +66,7 @@ impl<C: Explain> Explain for Bar<C> {
             return Ok((1, 0));
         }
         let contracts = deck.contracts();
-        let contract = &contracts[k as usize];
+        let contract = &contracts[usize::from(k)];
         if self.bars.bars(contract) {
             return Ok((4, u16::from(contract.dredger)));
         }

@@ -24,7 +24,7 @@ fn widen(spans: &mut [Span; 256], trainee: u16, i: u8)
     ensures { (t : ℕ) → span_at spans.new t
         ≡ (if nat_eq t trainee then widened (span_at spans.old t) i else span_at spans.old t) }
 {
-    let span = &mut spans[trainee as usize];
+    let span = &mut spans[usize::from(trainee)];
     if span.to == 0 {
         span.from = i;
     }
@@ -62,12 +62,9 @@ impl Bars {
         ensures { pairs_of result ≡ (data_of deck.now).bars }
     {
         let bars = deck.bars();
-        // a deck has at most 128 bars
-        let Ok(pairs) = ArrayVec::try_from(bars) else {
-            unreachable!();
-        };
         Bars {
-            pairs,
+            // a deck has at most 128 bars
+            pairs: ArrayVec::try_from(bars).unwrap(),
             spans: spans_of(bars),
         }
     }
@@ -77,7 +74,7 @@ impl Bars {
         ensures { result ≡ span_at self.now.spans trainee }
     {
         self.spans
-            .get(trainee as usize)
+            .get(usize::from(trainee))
             .copied()
             .unwrap_or_default()
     }
@@ -87,7 +84,7 @@ impl Bars {
         ensures { result ≡ bars (pairs_of self.now) c.now }
     {
         let span = self.span_of(c.trainee);
-        any_bars(&self.pairs[span.from as usize..span.to as usize], c)
+        any_bars(&self.pairs[usize::from(span.from)..usize::from(span.to)], c)
     }
 
     // Takes the barred contracts out of the marks.

@@ -1,5 +1,5 @@
 -- Writing all marks of a copy.
-use Rattle.std.proofs.Common.{◌≡◌, ℕ, not, List, length, ◌∙◌, ap, arith}
+use Rattle.std.proofs.Common.{◌≡◌, ℕ, ◌<◌, Bool, true, not, ◌&&◌, cond, List, length, get_or, subst, ◌∙◌, ap, arith}
 use Rattle.std.specs.List.{refill}
 use Rattle.std.proofs.lemmas.Bool.{and_parts}
 use Rattle.std.proofs.lemmas.Grind.{common_steps}
@@ -32,3 +32,11 @@ pub copied_without : (B C : Set) (m n : ℕ) (xs ys zs : List ℕ) → length xs
     → (length ys ≡ n) × (member ys ≡ minus (member zs) C)
 copied_without B C m n xs ys zs l e s b h =
     (ap length h ∙ length_marked m (common (member xs) (λ k. not (B k))) ∙ e, kept_without B m xs ys l h ∙ ap (λ (us : List ℕ). minus (member us) B) s ∙ ap (λ (D : Set). minus (member zs) D) b)
+
+-- the same place by place
+pub each_kept : {P : ℕ → Bool → Type 0} (xs ds ws : List ℕ) → ds ≡ xs → length ws ≡ length ds
+    → ((k : ℕ) → k < length ds → (b : Bool) × (member ds k ≡ true → P k b) × (get_or ws k 0 ≡ cond (member ds k && b) 1 0))
+    → (k : ℕ) → k < length xs → (b : Bool) × (member xs k ≡ true → P k b) × (get_or (refill (length xs) xs ws) k 0 ≡ cond (member xs k && b) 1 0)
+each_kept {P = P} xs ds ws e m h =
+    subst (λ (zs : List ℕ). (k : ℕ) → k < length zs → (b : Bool) × (member zs k ≡ true → P k b) × (get_or (refill (length zs) zs ws) k 0 ≡ cond (member zs k && b) 1 0)) e
+    (λ k l. let w = h k l in (w.0, w.1, ap (λ ys. get_or ys k 0) (refilled (length ds) ds ws m) ∙ w.2))

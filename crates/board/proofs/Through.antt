@@ -81,17 +81,6 @@ explained_first R f S n xs k l h x r =
 pub read_at : (X Y : Set) (k : ℕ) (b : Bool) → X ≡ Y → b ≡ X k → Y k ≡ b
 read_at X Y k b e h = ap (λ (Z : Set). Z k) (sym e) ∙ sym h
 
--- a test that was taken
-pub taken_at : (X : Set) (k : ℕ) (b t : Bool) → b ≡ X k → b ≡ t → X k ≡ t
-taken_at X k b t h e = sym h ∙ e
-
--- one list without another, by what both are
-pub minus_read : (M A B C D : Set) → M ≡ minus A B → A ≡ C → B ≡ D → M ≡ minus C D
-minus_read M A B C D e a b = e ∙ ap (λ (Z : Set). minus Z B) a ∙ ap (λ (Z : Set). minus C Z) b
-
-pub length_three : (xs ys zs : List ℕ) (n : ℕ) → length xs ≡ length ys → ys ≡ zs → length zs ≡ n → length xs ≡ n
-length_three xs ys zs n a b e = a ∙ ap length b ∙ e
-
 -- `choose` of the board below on what the part R leaves, and R put in again
 pub chosen_over : (R f : Choice) (n : ℕ) (before part rest mid after : List ℕ) → length before ≡ n → member part ≡ R (member before)
     → member rest ≡ minus (member before) (member part) → mid ≡ marked n (f (member rest)) → length after ≡ length mid

@@ -14,7 +14,7 @@ use deck::deck::Deck;
 pub trait Explain: Board {
     ghost reason: { Self → Content → Set → ℕ → ℕ × ℕ };
 
-    // The code and the number for contract k of a list.
+    // The code and the number for contract k of a list, a pair as the rules have it.
     fn why(&self, deck: &Deck, marks: &[u8], k: u16) -> Result<(u8, u16), Unfit>
         ensures { Explained (Self.Board.kept self.now (data_of deck.now)) (reason self.now (data_of deck.now))
             (length (data_of deck.now).contracts) marks.now k result };

@@ -8,7 +8,7 @@ use arrayvec::ArrayVec;
 use deck::deck::Deck;
 use rules::table::Contract;
 
-// A list is copied once for a call, so that no caller's mark is lost; a deck has at most 2,048 contracts.
+// The caller's marks stay as they are; a deck has at most 2,048 contracts.
 #[derive(Drop)]
 pub struct Marked<'a> {
     deck: &'a Deck<'a>,
@@ -18,7 +18,7 @@ pub struct Marked<'a> {
 
 impl<'a> Marked<'a> {
     ghost use Rattle.board.specs.Marked.{Copied, contracts_of, deck_of, list_of, marks_of};
-    ghost use Rattle.board.specs.Marks.{Answers, marked};
+    ghost use Rattle.board.specs.Marks.{AnswersAs, KeptBy, marked};
     ghost use Rattle.matching.specs.Sets.{Set, common, less};
 
     // The list of these marks, if they fit the deck.
@@ -26,9 +26,10 @@ impl<'a> Marked<'a> {
         ensures { Copied deck.now marks.now result }
     {
         fit(deck, marks)?;
-        let mut own = ArrayVec::new();
-        own.try_extend_from_slice(marks).map_err(|_| Unfit::Marks)?;
-        Ok(Marked { deck, marks: own })
+        Ok(Marked {
+            deck,
+            marks: ArrayVec::try_from(marks).unwrap(),
+        })
     }
 
     pub fn deck(&self) -> &'a Deck<'a>
@@ -53,7 +54,7 @@ impl<'a> Marked<'a> {
     pub fn has(&self, k: u16) -> bool
         ensures { result ≡ list_of self.now k }
     {
-        is_in(&self.marks, k as usize)
+        is_in(&self.marks, usize::from(k))
     }
 
     // Takes contract k out of the list, if it is there.
@@ -61,7 +62,7 @@ impl<'a> Marked<'a> {
         ensures deck { deck_of self.new ≡ deck_of self.old }
         ensures less { list_of self.new ≡ less (list_of self.old) k }
     {
-        let at = k as usize;
+        let at = usize::from(k);
         if at < self.marks.len() {
             self.marks[at] = 0;
         }
@@ -71,7 +72,8 @@ impl<'a> Marked<'a> {
     pub fn keep<F: Fn(usize) -> bool>(&mut self, keeps: F)
         requires { (k : ℕ) → k < length (contracts_of self.old) → F.pre keeps k }
         ensures deck { deck_of self.new ≡ deck_of self.old }
-        ensures kept { (p : Set) → Answers (λ f k b. F.post f k b) keeps (length (contracts_of self.old)) p →
+        ensures each { KeptBy (λ f k b. F.post f k b) keeps (marks_of self.old) (marks_of self.new) }
+        ensures kept { (p : Set) → AnswersAs (λ f k b. F.post f k b) keeps (length (contracts_of self.old)) p →
             marks_of self.new ≡ marked (length (contracts_of self.old)) (common (list_of self.old) p) }
     {
         keep_only(&mut self.marks, keeps);

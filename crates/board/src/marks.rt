@@ -1,7 +1,7 @@
 // Lists of contracts, as marks.
 ghost use Rattle.std.specs.Prelude.{◌≡◌, ℕ, ◌<◌, length, if◌then◌else◌, slice_index};
 ghost use Rattle.board.specs.Calls.{Asked, Fitting};
-ghost use Rattle.board.specs.Marks.{Answers, marked, member};
+ghost use Rattle.board.specs.Marks.{AnswersAs, KeptBy, marked, member};
 ghost use Rattle.deck.specs.Contents.{data_of};
 ghost use Rattle.matching.specs.Sets.{Set, common, minus};
 
@@ -30,13 +30,13 @@ pub fn is_listed(deck: &Deck, marks: &[u8], k: u16) -> Result<bool, Unfit>
     ensures { Asked (length (data_of deck.now).contracts) marks.now k result }
 {
     fit(deck, marks)?;
-    if k as usize >= marks.len() {
+    if usize::from(k) >= marks.len() {
         return Err(Unfit::Contract);
     }
-    Ok(is_in(marks, k as usize))
+    Ok(is_in(marks, usize::from(k)))
 }
 
-// Writes this byte at each contract of a list; marks beyond the end are left out.
+// Writes this byte at each contract of a list; marks beyond the end are left out. A `zip` of both would tell nothing of the marks afterwards.
 fn write(marks: &mut [u8], list: &[u8], byte: u8)
     ensures { (k : ℕ) → k < length marks.old → slice_index marks.new k ≡ (if member list.now k then byte else slice_index marks.old k) }
 {
@@ -65,7 +65,8 @@ pub fn put_in(marks: &mut [u8], more: &[u8])
 // Writes 1 for each contract of the marks that a test keeps, else 0.
 pub fn keep_only<F: Fn(usize) -> bool>(marks: &mut [u8], keeps: F)
     requires { (k : ℕ) → k < length marks.old → F.pre keeps k }
-    ensures { (p : Set) → Answers (λ f k b. F.post f k b) keeps (length marks.old) p →
+    ensures each { KeptBy (λ f k b. F.post f k b) keeps marks.old marks.new }
+    ensures kept { (p : Set) → AnswersAs (λ f k b. F.post f k b) keeps (length marks.old) p →
         marks.new ≡ marked (length marks.old) (common (member marks.old) p) }
 {
     for (k, mark) in marks.iter_mut().enumerate() {

@@ -9,13 +9,8 @@ use std::process::Abort;
 #[derive(Clone, Copy)]
 pub struct Trial(pub &'static [u8], pub &'static [(u8, u16)]);
 
-// The number of a refusal, 0 for none.
-pub fn number_of(answer: Result<(), Unfit>) -> u8 {
-    answer.map_or_else(u8::from, |()| 0)
-}
-
-// What is said, or the number of the refusal.
-pub fn said(answer: Result<(u8, u16), Unfit>) -> Result<(u8, u16), u8> {
+// What is answered, or the number of the refusal.
+pub fn said<T>(answer: Result<T, Unfit>) -> Result<T, u8> {
     answer.map_err(u8::from)
 }
 
@@ -35,8 +30,8 @@ fn agrees_on<B: Explain>(
     );
     let mut marks: ArrayVec<u8, 16> = ArrayVec::try_from(list).unwrap();
     assert_eq!(rt;
-        number_of(board.choose(deck, &mut marks)),
-        0,
+        said(board.choose(deck, &mut marks)),
+        Ok(()),
         "{what}, list {number}"
     );
     for (k, pair) in pairs.iter().enumerate() {

@@ -1,6 +1,6 @@
 // Refusals, which leave the marks as they were.
 use crate::book::DeckBook;
-use crate::case::{number_of, said};
+use crate::case::said;
 use crate::decks::R;
 use bar::bar::Bar;
 use board::board::Board;
@@ -18,11 +18,11 @@ use std::test::Fail;
 fn check_lengths<B: Explain>(rt: &impl Abort, what: &str, board: &B, deck: &Deck) {
     let mut short = [2, 1, 0, 255, 1, 0, 7, 1];
     let mut long = [1, 2, 0, 255, 1, 0, 7, 1, 1, 3];
-    assert_eq!(rt; number_of(board.choose(deck, &mut short)), 31, "{what}");
-    assert_eq!(rt; number_of(board.choose(deck, &mut long)), 31, "{what}");
+    assert_eq!(rt; said(board.choose(deck, &mut short)), Err(31), "{what}");
+    assert_eq!(rt; said(board.choose(deck, &mut long)), Err(31), "{what}");
     assert_eq!(rt;
-        number_of(choose_twice(board, deck, &mut long)),
-        31,
+        said(choose_twice(board, deck, &mut long)),
+        Err(31),
         "{what}"
     );
     assert_eq!(rt; said(board.why(deck, &short, 0)), Err(31), "{what}");
@@ -63,8 +63,8 @@ fn boards_and_layers_refuse(rt: HostRuntime) -> Result<(), Fail> {
 fn an_empty_deck_has_no_marks(rt: HostRuntime) {
     let deck = Deck::empty();
     let board = Bar::of(Reserve::of(Threshold { least: 0 }, &deck), &deck);
-    assert_eq!(rt; number_of(board.choose(&deck, &mut [])), 0);
-    assert_eq!(rt; number_of(board.choose(&deck, &mut [1])), 31);
+    assert_eq!(rt; said(board.choose(&deck, &mut [])), Ok(()));
+    assert_eq!(rt; said(board.choose(&deck, &mut [1])), Err(31));
     assert_eq!(rt; said(board.why(&deck, &[], 0)), Err(32));
 }
 
@@ -77,12 +77,12 @@ fn shortlists_ask_both_lengths(rt: HostRuntime) -> Result<(), Fail> {
     let mut whole = [2u8; 9];
     let mut short = [3u8; 8];
     assert_eq!(rt;
-        number_of(choose_shortlists(&board, &deck, &mut whole, &mut short)),
-        31
+        said(choose_shortlists(&board, &deck, &mut whole, &mut short)),
+        Err(31)
     );
     assert_eq!(rt;
-        number_of(choose_shortlists(&board, &deck, &mut short, &mut whole)),
-        31
+        said(choose_shortlists(&board, &deck, &mut short, &mut whole)),
+        Err(31)
     );
     assert_eq!(rt; whole, [2u8; 9]);
     assert_eq!(rt; short, [3u8; 8]);

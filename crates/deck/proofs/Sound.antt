@@ -1,8 +1,8 @@
 -- The facts of a deck's entries, carried along its row.
 use Rattle.std.proofs.Common.{◌≡◌, ℕ, Some, None, ◌+◌, ◌-◌, ◌<◌, ◌≤◌, Bool, true, false, cond, eqb, List, [], ◌∷◌, ◌++◌, length, get_or, sym, refl, ap, ◌∙◌, subst, inl, inr, arith, length-append, le-leb}
 use Rattle.std.proofs.lemmas.List.{get_or_append_left, get_or-append_right, get_or_push}
-use Rattle.std.proofs.lemmas.Bool.{cases_Bool}
-use borrow.Author.Tests.{eqb-false}
+use Rattle.std.proofs.lemmas.Bool.{cases_Bool, eqb-false}
+use Rattle.std.proofs.lemmas.Option.{none-some}
 use Rattle.format.specs.declared.record.Record.{Record}
 use Rattle.format.specs.declared.record.Record.TheVariants as R
 use Rattle.format.specs.Layout.{encode, Formed}
@@ -11,9 +11,9 @@ use Rattle.rules.specs.declared.table.Reservation.{Reservation}
 use Rattle.rules.specs.declared.table.Trainee.{Trainee}
 use Rattle.rules.specs.declared.table.Contract.{Contract}
 use Rattle.rules.specs.declared.table.Barring.{Barring}
-use Rattle.rules.specs.Contents.{Content, group_at, seat_at, reserve_at, trainee_at, contract_at, bar_at}
+use Rattle.rules.specs.Contents.{Content, parent_of, group_at, seat_at, reserve_at, trainee_at, contract_at, bar_at}
 use Rattle.rules.specs.Rules.{IsDredger, Printable, Ruled, current}
-use Rattle.intake.specs.Rows.{Row, none, ◌▸◌, encodes, section_of, listed, entry_of, parent_of, entry_of_group, entry_of_wish, pushed, Passes, Belongs}
+use Rattle.intake.specs.Rows.{Row, none, ◌▸◌, encodes, section_of, listed, entry_of, entry_of_group, entry_of_wish, pushed, Passes, Belongs}
 use Rattle.intake.proofs.Rows.{led, belongs}
 use Rattle.deck.specs.Facts.{printed, ReservesApart, LotsApart, Rising, WishesApart, BarsApart}
 use Rattle.deck.proofs.Pushes.{each_push, pairs_push}
@@ -138,10 +138,6 @@ name_at_lem b head n hl nl p =
           subst (λ (y : ℕ). printed y ≡ true) (sym e) (is_printed (get_or n i 0) (p i 0 (omega arith))),
     )
 
--- a parent is there or not
-some_none : {X : Type 0} (p : ℕ) → Some p ≡ None → X
-some_none p e = absurd (let z : ◌≡◌ {A = ℕ} 0 1 = cc in omega arith)
-
 -- the entry of a new group
 new_group : (all : List ℕ) (t : Content) (p c q : ℕ) → ((p ≡ 255 → ⊥) → p < length t.groups) → NameAt all (q + 4) → Sound all t →
     GroupOk all (t.groups ++ (entry_of_group t q p c ∷ [])) (length t.groups) (entry_of_group t q p c)
@@ -153,9 +149,9 @@ new_group all t p c q h m s = elim (cases_Bool (eqb p 255)) [ inl e ↦ root e |
         let z = ap (λ (y : Bool). cond y (length t.groups) (group_at t.groups p).dredger) b in
         let n = length-append t.groups (entry_of_group t q p c ∷ []) in
         record {
-          earlier = λ a k. some_none a (sym k ∙ e);
+          earlier = λ a k. absurd (none-some a (sym e ∙ k));
           own = λ _. z;
-          inherited = λ a k. some_none a (sym k ∙ e);
+          inherited = λ a k. absurd (none-some a (sym e ∙ k));
           topped = subst (λ (d : ℕ). IsDredger (t.groups ++ (entry_of_group t q p c ∷ [])) d) (sym z)
               (omega arith, ap (λ (y : Group). y.parent) (get_or_push t.groups (entry_of_group t q p c) _ (length t.groups) refl) ∙ e);
           named = m;
@@ -170,7 +166,7 @@ new_group all t p c q h m s = elim (cases_Bool (eqb p 255)) [ inl e ↦ root e |
         let same : (a : ℕ) → parent_of p ≡ Some a → p ≡ a = λ a k. let u = sym e ∙ k in cc in
         record {
           earlier = λ a k. subst (λ (x : ℕ). x < length t.groups) (same a k) lt;
-          own = λ k. some_none p (sym e ∙ k);
+          own = λ k. absurd (none-some p (sym k ∙ e));
           inherited = λ a k. z ∙ sym (ap (λ (y : Group). y.dredger) (get_or_append_left t.groups (entry_of_group t q p c ∷ []) _ p lt)) ∙ ap (λ (x : ℕ). (group_at (t.groups ++ (entry_of_group t q p c ∷ [])) x).dredger) (same a k);
           topped = subst (λ (d : ℕ). IsDredger (t.groups ++ (entry_of_group t q p c ∷ [])) d) (sym z) (dredger_wider t.groups (entry_of_group t q p c) _ (s.groups p lt).topped);
           named = m;

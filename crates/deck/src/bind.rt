@@ -9,7 +9,7 @@ use intake::fault::DeckFault;
 use rules::table::Tables;
 
 impl<'a> Deck<'a> {
-    // Puts the deck of these bytes, tables and counts into this place, or leaves the deck that is there.
+    // Puts the deck of these bytes, tables and counts into this place, or leaves the deck that is there. The three come apart, and only here it shows that they fit.
     pub fn bind(
         &mut self,
         bytes: &'a [u8],

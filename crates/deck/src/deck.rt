@@ -56,17 +56,7 @@ impl<'a> Deck<'a> {
         ensures bytes { bytes_of result ≡ 69 ∷ 0 ∷ 0 ∷ [] }
         ensures entries { data_of result ≡ nothing }
     {
-        Deck::made(
-            b"E\0\0",
-            Tables {
-                groups: &[],
-                seats: &[],
-                reserves: &[],
-                trainees: &[],
-                contracts: &[],
-                bars: &[],
-            },
-        )
+        Deck::made(b"E\0\0", Tables::default())
     }
 
     // The deck of these bytes and entries, which a lawful row gives.

@@ -6,7 +6,7 @@ ghost use Rattle.format.specs.Questions.{ByteNo, KindNo};
 use crate::fault::ByteFault;
 use crate::record::{Kind, Record};
 
-// The kind whose letter begins `rest`, which stands at `place`.
+// The kind whose letter begins `rest`, which stands at `place`: a match of slice patterns, as that of the records below.
 pub fn kind_of(rest: &[u8], place: usize) -> Result<Kind, ByteFault>
     ensures { MatchResult result (Begins rest.now) (KindNo rest.now place) }
 {

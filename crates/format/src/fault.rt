@@ -26,7 +26,7 @@ pub struct Refusal {
 }
 
 impl Layer {
-    // A refusal by this layer.
+    // A refusal by this layer. The numbers are those that the rules fix and that are printed.
     pub fn refusal(self, number: u8, place: usize) -> Refusal
         ensures { result ≡ refusal_by self number place }
     {

@@ -1,6 +1,7 @@
 -- A lawful choice, made again, and made of two shortlists.
-use Rattle.std.proofs.Common.{◌≡◌, ℕ, ◌<◌, Bool, true, false, cond, ◌||◌, List, length, get_or, Ok, Err, Result, sym, refl, ap, ◌∙◌, ⊎_elim}
-use mathlib.Core.Path.{fun_ext}
+use Rattle.std.proofs.Common.{◌≡◌, ℕ, ◌<◌, cond, List, length, get_or, Ok, Err, Result, sym, ap, ◌∙◌, ⊎_elim}
+use Rattle.std.proofs.Math.Bool.{or_comm}
+use Rattle.std.proofs.Math.Path.{fun_ext}
 use Rattle.std.proofs.lemmas.Bool.{or_cases}
 use Rattle.matching.specs.Sets.{Set, union, Within}
 use Rattle.matching.specs.Choices.{Choice, Lawful}
@@ -28,13 +29,7 @@ chosen_twice f n law before mid after (Ok x) h c = (h.0, c.1 ∙ ap (λ (X : Set
 chosen_twice f n law before mid after (Err e) h c = absurd (marks_fit n mid e (ap length h.1 ∙ length_marked n (f (member before))) c.0)
 
 union_flip : (X Y : Set) → union X Y ≡ union Y X
-union_flip X Y = fun_ext (λ k. flip (X k) (Y k))
-  where
-    flip : (a b : Bool) → (a || b) ≡ (b || a)
-    flip true true = refl
-    flip true false = refl
-    flip false true = refl
-    flip false false = refl
+union_flip X Y = fun_ext (λ k. or_comm (X k) (Y k))
 
 -- one shortlist put into the other, and chosen of again
 pub shortlisted : (f : Choice) (n : ℕ) → Lawful n f → (xs ys xs1 ys1 joined after : List ℕ) (r : Result Unit Unfit)

@@ -51,7 +51,7 @@ impl Explain for Threshold {
         if !is_listed(deck, marks, k)? {
             return Ok((1, 0));
         }
-        if self.takes(&deck.contracts()[k as usize]) {
+        if self.takes(&deck.contracts()[usize::from(k)]) {
             return Ok((0, 0));
         }
         Ok((7, self.least))

@@ -1,9 +1,8 @@
 -- Tables that hold entries: one more, their first entries, and blank tables.
 use Rattle.std.proofs.Common.{◌≡◌, ℕ, suc, ◌+◌, ◌-◌, ◌<◌, List, [], ◌∷◌, ◌++◌, length, take, set, replicate, sym, refl, ap, ◌∙◌, subst, append_assoc, arith, length-append, length-set}
 use Rattle.std.proofs.lemmas.List.{length-replicate}
-use native.Mathlib.Numerals.{unary_clauses}
 use lib.Seq.{set_at, take-append_seam}
-use Rattle.rules.specs.Contents.{Content, nothing}
+use Rattle.rules.specs.Contents.{Content}
 use Rattle.intake.specs.declared.counts.Counts.{Counts}
 use Rattle.intake.specs.declared.entry.Entry.{Entry}
 use Rattle.intake.specs.declared.entry.Entry.TheVariants as E
@@ -53,20 +52,6 @@ holds-firsts x c t h =
     let j = held_firsts _ _ _ _ h.bars in
     let z : firsts c t ≡ record { groups = x.groups; seats = x.seats; reserves = x.reserves; trainees = x.trainees; contracts = x.contracts; bars = x.bars } = cc in
     z
-
--- blank tables hold nothing
-held_none : {A : Type 0} (d : A) (t : List A) → t ≡ replicate (length t) d → Held d [] 0 t
-held_none d t e = record { count = refl; filled = simp unary_clauses e }
-
-pub holds_none : (t : Content) → t ≡ blanks t → Holds nothing (record { groups = 0; seats = 0; reserves = 0; trainees = 0; wishes = 0; bars = 0 }) t
-holds_none t e = record {
-  groups = held_none _ _ (ap (λ (x : Content). x.groups) e);
-  seats = held_none _ _ (ap (λ (x : Content). x.seats) e);
-  reserves = held_none _ _ (ap (λ (x : Content). x.reserves) e);
-  trainees = held_none _ _ (ap (λ (x : Content). x.trainees) e);
-  contracts = held_none _ _ (ap (λ (x : Content). x.contracts) e);
-  bars = held_none _ _ (ap (λ (x : Content). x.bars) e);
-}
 
 -- blanking and writing keep the lengths
 pub same_itself : (t : Content) → SameLengths t t

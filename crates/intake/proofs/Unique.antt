@@ -1,6 +1,6 @@
 -- A deck's bytes have one reading, and one verdict.
-use Rattle.std.proofs.Common.{rules, ◌≡◌, ℕ, ◌+◌, ◌*◌, ◌<◌, ◌≤◌, true, false, cond, eqb, ◌⊎◌, List, [], ◌∷◌, ◌++◌, length, sym, refl, ap, ◌∙◌, subst, inl, inr, append_assoc, append-nil, arith, length-append}
-use Rattle.std.proofs.lemmas.Bool.{cases_order}
+use Rattle.std.proofs.Common.{◌≡◌, ℕ, ◌+◌, ◌*◌, ◌<◌, ◌≤◌, true, cond, eqb, ◌⊎◌, List, [], ◌∷◌, ◌++◌, length, sym, refl, ap, ◌∙◌, subst, inl, inr, append_assoc, append-nil, arith, length-append}
+use Rattle.std.proofs.lemmas.Bool.{cases_order, true≢false}
 use Rattle.format.specs.declared.fault.Refusal.{Refusal}
 use Rattle.format.specs.declared.record.Kind.{Kind}
 use Rattle.format.specs.declared.record.Record.{Record}
@@ -114,11 +114,8 @@ same_stop all A B x y a b s u =
       | inr h ↦ let e = no_longer B A y x a.passed u h in (sym e.0, sym e.1)
     ]
 
-clash : true ≡ false → ⊥
-clash e = search rules
-
 not_closed : (s : Section) (k : Kind) → may s k ≡ true → s ≡ Closed → ⊥
-not_closed s k m e = clash (sym m ∙ ap (λ (x : Section). may x k) e)
+not_closed s k m e = true≢false (sym m ∙ ap (λ (x : Section). may x k) e)
 
 -- nothing follows E, and nothing follows a record with a no
 stuck_end : (A : Row) (n : ℕ) (x : List ℕ) → Stuck (A ▸ R.End n) x

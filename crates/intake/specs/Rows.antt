@@ -1,5 +1,5 @@
 -- A deck as a row of records, each judged by those before it, and the entries that they fill.
-use Rattle.std.specs.Prelude.{◌≡◌, ℕ, ◌+◌, ◌<◌, cond, List, [], ◌∷◌, ◌++◌, length, Some, None, Option, if◌then◌else◌, ◌==◌}
+use Rattle.std.specs.Prelude.{◌≡◌, ℕ, ◌+◌, ◌<◌, cond, List, [], ◌∷◌, ◌++◌, length, ◌==◌}
 use Rattle.format.specs.declared.reader.Reader.{Reader}
 use Rattle.format.specs.declared.record.Record.{Record}
 use Rattle.format.specs.declared.record.Record.TheVariants as R
@@ -8,15 +8,11 @@ use Rattle.rules.specs.declared.section.Section.{Section}
 use Rattle.rules.specs.declared.section.Section.TheVariants.{Groups, Trainees}
 use Rattle.rules.specs.declared.table.Group.{Group}
 use Rattle.rules.specs.declared.table.Contract.{Contract}
-use Rattle.rules.specs.Contents.{Content, nothing, rule_of, group_at, trainee_at}
+use Rattle.rules.specs.Contents.{Content, nothing, parent_of, rule_of, group_at, trainee_at}
 use Rattle.rules.specs.Order.{after}
 use Rattle.rules.specs.Rules.{Admitted, Allowed, current}
 use Rattle.intake.specs.declared.entry.Entry.{Entry}
 use Rattle.intake.specs.declared.entry.Entry.TheVariants as E
-
--- the parent that a byte gives
-abbrev pub parent_of : ℕ → Option ℕ
-parent_of p = if p == 255 then None else Some p
 
 -- a group without parent is its own dredger, any other has its parent's; its name begins four bytes after its kind byte
 abbrev pub entry_of_group : Content → ℕ → ℕ → ℕ → Group

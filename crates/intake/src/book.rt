@@ -8,19 +8,23 @@ use crate::counts::Counts;
 use crate::fault::DeckFault;
 use crate::intake::intake;
 use crate::tables::TablesMut;
-use rules::table::{Barring, Contract, Group, Reservation, Seat, Tables, Trainee};
+use rules::table::{
+    Barring, Contract, Group, MOST_BARS, MOST_CONTRACTS, MOST_GROUPS, MOST_RESERVES, MOST_SEATS,
+    MOST_TRAINEES, Reservation, Seat, Tables, Trainee,
+};
 
 #[derive(Drop)]
 pub struct Book {
-    groups: [Group; 64],
-    seats: [Seat; 256],
-    reserves: [Reservation; 64],
-    trainees: [Trainee; 256],
-    contracts: [Contract; 2048],
-    bars: [Barring; 128],
+    groups: [Group; MOST_GROUPS],
+    seats: [Seat; MOST_SEATS],
+    reserves: [Reservation; MOST_RESERVES],
+    trainees: [Trainee; MOST_TRAINEES],
+    contracts: [Contract; MOST_CONTRACTS],
+    bars: [Barring; MOST_BARS],
     ghost full: { Full (tables groups seats reserves trainees contracts bars) },
 }
 
+// Written out: Rust gives Default to arrays of up to 32 entries only.
 impl Default for Book {
     ghost use Rattle.intake.specs.Owned.{content_of_book};
 
@@ -28,12 +32,12 @@ impl Default for Book {
 
     fn default() -> Book {
         Book {
-            groups: [Group::default(); 64],
-            seats: [Seat::default(); 256],
-            reserves: [Reservation::default(); 64],
-            trainees: [Trainee::default(); 256],
-            contracts: [Contract::default(); 2048],
-            bars: [Barring::default(); 128],
+            groups: [Group::default(); MOST_GROUPS],
+            seats: [Seat::default(); MOST_SEATS],
+            reserves: [Reservation::default(); MOST_RESERVES],
+            trainees: [Trainee::default(); MOST_TRAINEES],
+            contracts: [Contract::default(); MOST_CONTRACTS],
+            bars: [Barring::default(); MOST_BARS],
         }
     }
 }
@@ -59,7 +63,7 @@ impl Book {
         )
     }
 
-    // The tables, for reading.
+    // The tables, for reading: those of a book of its own, as tables of other kinds have theirs.
     pub fn tables(&self) -> Tables<'_>
         ensures { content_of result ≡ content_of_book self.now }
     {

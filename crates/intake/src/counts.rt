@@ -15,6 +15,7 @@ pub struct Counts {
     pub bars: usize,
 }
 
+// The library has no call that cuts a slice only where it is longer.
 fn front<T>(entries: &[T], n: usize) -> &[T]
     ensures { result.now ≡ take n entries.now }
 {

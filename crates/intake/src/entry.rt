@@ -1,12 +1,12 @@
 // The entry that a record fills.
-ghost use Rattle.std.specs.Prelude.{◌≡◌, ◌+◌, ◌<◌, ◌≤◌, length, ◌≢◌};
+ghost use Rattle.std.specs.Prelude.{◌≡◌, ◌<◌, ◌≤◌, length};
 ghost use Rattle.format.specs.Layout.{kind};
 ghost use Rattle.intake.specs.Rows.{Belongs, entry_of, entry_of_group, entry_of_wish};
 ghost use Rattle.rules.specs.Contents.{content_of};
-ghost use Rattle.rules.specs.Rules.{InRange, Room};
+ghost use Rattle.rules.specs.Rules.{InRange, IsParent, Room};
 
 use format::record::Record;
-use rules::table::{Barring, Contract, Group, NO_PARENT, Reservation, Rule, Seat, Tables, Trainee};
+use rules::table::{Barring, Contract, Group, Reservation, Rule, Seat, Tables, Trainee, parent_of};
 
 // An E fills no table; it gives the number of W records.
 #[derive(Clone, Copy)]
@@ -20,17 +20,19 @@ pub enum Entry {
     End(u16),
 }
 
+// `parent` is the record's raw byte, of which the entry is made. Any tables may be lent for reading; that these are within a deck's bounds is therefore asked, here and below,
+// by `place` and `few`.
 fn group_entry(past: Tables, place: usize, parent: u8, capacity: u16) -> Group
     requires place { place ≤ 15363 }
     requires few { length past.groups.now < 64 }
-    requires parent { (parent ≢ 255) → parent < length past.groups.now }
+    requires parent { IsParent past.groups.now parent }
     ensures { result ≡ entry_of_group (content_of past.entry) place parent capacity }
 {
     let name = place + 4;
-    let parent = (parent != NO_PARENT).then_some(parent);
+    let parent = parent_of(parent);
     let dredger = match parent {
         None => past.groups.len() as u8,
-        Some(parent) => past.groups[parent as usize].dredger,
+        Some(parent) => past.groups[usize::from(parent)].dredger,
     };
     Group {
         parent,
@@ -48,7 +50,7 @@ fn wish_entry(past: Tables, group: u8, points: u16, term: u8) -> Contract
 {
     let last = past.trainees.len() - 1;
     let owner = past.trainees[last];
-    let dredger = past.groups[group as usize].dredger;
+    let dredger = past.groups[usize::from(group)].dredger;
     Contract {
         trainee: last as u16,
         group,

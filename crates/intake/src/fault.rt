@@ -15,6 +15,7 @@ pub enum DeckFault {
     OtherTables,
 }
 
+// Each layer of faults takes the one below by an impl of its own.
 impl From<RecordFault> for DeckFault {
     ghost from_gives = { λ record_fault fault. fault ≡ deck_fault_of record_fault };
 

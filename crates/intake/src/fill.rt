@@ -22,7 +22,7 @@ use rules::table::Tables;
 // The most bytes that a deck has: the most records of each kind, and E.
 pub const LONGEST: usize = 15363;
 
-// The entry of the next record, where it may stand here and keeps the rules, and the section after it.
+// The entry of the next record, where it may stand here and keeps the rules, and the section after it. The bounds are asked for the reason that stands at the entries.
 fn next_entry(
     reader: &mut Reader,
     section: Section,
@@ -51,7 +51,7 @@ fn close(
 ) -> Result<Counts, DeckFault>
     ensures { MatchResult result (λ c. (c ≡ had) × (count ≡ had.wishes) × (end ≡ size)) (λ f. EndNo count had.wishes place end size f) }
 {
-    if count as usize != had.wishes {
+    if usize::from(count) != had.wishes {
         return Err(DeckFault::WrongCount { place });
     }
     if end != size {
@@ -74,6 +74,7 @@ pub(crate) fn fill(bytes: &[u8], tables: &mut TablesMut) -> Result<Counts, DeckF
     let mut reader = Reader::new(bytes);
     let mut section = Section::Groups;
     let mut had = Counts::default();
+    // One record after another, until E or a fault.
     loop {
         let place = reader.place();
         let past = tables.firsts(had);

@@ -7,7 +7,10 @@ ghost use Rattle.rules.specs.Contents.{content_of};
 
 use crate::counts::Counts;
 use crate::entry::Entry;
-use rules::table::{Barring, Contract, Group, Reservation, Seat, Tables, Trainee};
+use rules::table::{
+    Barring, Contract, Group, MOST_BARS, MOST_CONTRACTS, MOST_GROUPS, MOST_RESERVES, MOST_SEATS,
+    MOST_TRAINEES, Reservation, Seat, Tables, Trainee,
+};
 
 #[derive(Drop)]
 pub struct TablesMut<'a> {
@@ -24,15 +27,15 @@ impl<'a> TablesMut<'a> {
     pub(crate) fn are_roomy(&self) -> bool
         ensures { Decides result (Roomy (content_of_lent self.now)) }
     {
-        self.groups.len() >= 64
-            && self.seats.len() >= 256
-            && self.reserves.len() >= 64
-            && self.trainees.len() >= 256
-            && self.contracts.len() >= 2048
-            && self.bars.len() >= 128
+        self.groups.len() >= MOST_GROUPS
+            && self.seats.len() >= MOST_SEATS
+            && self.reserves.len() >= MOST_RESERVES
+            && self.trainees.len() >= MOST_TRAINEES
+            && self.contracts.len() >= MOST_CONTRACTS
+            && self.bars.len() >= MOST_BARS
     }
 
-    // Blanks every entry.
+    // Blanks every entry; the tables are lent, so no value of their own could be made.
     pub(crate) fn blank(&mut self)
         ensures same { SameTables self.old self.new }
         ensures entries { content_of_lent self.new ≡ blanks (content_of_lent self.old) }

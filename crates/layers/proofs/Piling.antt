@@ -1,11 +1,8 @@
 -- What a pile of layers keeps, by the tables that it was made from.
-use mathlib.Core.Path.{◌≡◌, ◌∙◌, ap, fun_ext}
-use mathlib.Core.List.{List}
-use Prim.Native.Nat.{ℕ}
-use lib.ListN.{length, get_or}
+use Rattle.std.proofs.Common.{◌≡◌, ℕ, List, length, get_or, Result, ap, subst, ◌∙◌}
+use Rattle.std.proofs.Math.Path.{fun_ext}
 use Rattle.rules.specs.declared.table.Barring.{Barring}
 use Rattle.rules.specs.Contents.{Content, contract_at}
-use Rattle.std.proofs.Common.{Result, subst}
 use Rattle.board.specs.declared.unfit.Unfit.{Unfit}
 use Rattle.board.specs.Calls.{Chosen}
 use Rattle.matching.specs.Choices.{Choice, without, over, first}

@@ -4,7 +4,7 @@ ghost use Rattle.bar.specs.Bar.{bars_of};
 ghost use Rattle.board.specs.Calls.{Chosen};
 ghost use Rattle.deck.specs.Contents.{data_of};
 ghost use Rattle.layers.specs.Piles.{piled};
-ghost use Rattle.reserve.specs.Reserve.{seats_of};
+ghost use Rattle.reserve.specs.Reserve.{reserved_at};
 ghost use Rattle.reserve.specs.Reserves.{seats_for};
 
 use bar::bar::Bar;
@@ -16,7 +16,7 @@ use reserve::reserve::Reserve;
 // Both layers of a deck, on this board. The bars are outermost, so that a barred contract takes no reserved place.
 pub fn pile<C>(below: C, deck: &Deck) -> Bar<Reserve<C>>
     ensures below { result.below.below ≡ below }
-    ensures reserves { (v : ℕ) → seats_of result.below v ≡ seats_for (data_of deck.now).reserves v }
+    ensures reserves { (v : ℕ) → reserved_at result.below v ≡ seats_for (data_of deck.now).reserves v }
     ensures bars { bars_of result ≡ (data_of deck.now).bars }
 {
     Bar::of(Reserve::of(below, deck), deck)

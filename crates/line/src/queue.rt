@@ -6,8 +6,11 @@ ghost use Rattle.line.specs.Calls.{the_oldest};
 use crate::waiting::{End, Waiting};
 use strip::row::Strip;
 
+// The end at which a queue takes.
+#[derive(Clone, Copy, Debug)]
 pub struct Oldest;
 
+// What a queue and a stack differ in.
 impl End for Oldest {
     ghost takes = { the_oldest };
 
@@ -16,4 +19,5 @@ impl End for Oldest {
     }
 }
 
+// First come, first served.
 pub type Queue<'a, 'b> = Waiting<'a, 'b, Oldest>;

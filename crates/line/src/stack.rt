@@ -6,8 +6,11 @@ ghost use Rattle.line.specs.Calls.{the_newest};
 use crate::waiting::{End, Waiting};
 use strip::row::Strip;
 
+// The end at which a stack takes.
+#[derive(Clone, Copy, Debug)]
 pub struct Newest;
 
+// What a queue and a stack differ in.
 impl End for Newest {
     ghost takes = { the_newest };
 
@@ -16,4 +19,5 @@ impl End for Newest {
     }
 }
 
+// Last come, first served.
 pub type Stack<'a, 'b> = Waiting<'a, 'b, Newest>;

@@ -1,17 +1,11 @@
 -- The lines that are printed. Fields stand one blank apart; byte 10 ends a line.
 use Rattle.std.specs.Prelude.{ℕ, List, ◌++◌, length, take, drop, codes, decimal, ◌==◌}
 use Rattle.std.specs.List.{count_by, range_with_len, flat_map}
-use Rattle.format.specs.declared.fault.Layer.{Layer}
-use Rattle.format.specs.declared.fault.Layer.TheVariants.{Bytes, Records, Deck}
 use Rattle.format.specs.declared.fault.Refusal.{Refusal}
+use Rattle.format.specs.Refusals.{layer_name}
 use Rattle.intake.specs.declared.counts.Counts.{Counts}
 use Rattle.rules.specs.declared.table.Contract.{Contract}
 use Rattle.rules.specs.Contents.{Content, trainee_at}
-
-abbrev pub layer_name : Layer → List ℕ
-layer_name Bytes = codes "bytes"
-layer_name Records = codes "records"
-layer_name Deck = codes "deck"
 
 -- a number in decimal, a blank before it
 abbrev pub number_field : ℕ → List ℕ

@@ -42,7 +42,7 @@ impl Printer {
         self.put(field.as_bytes())
     }
 
-    // How many entries each table has.
+    // How many entries each table has. Field by field: one `format!` of all six numbers got no proof.
     pub fn counts_line(&mut self, counts: Counts) -> Result<(), AllocError>
         ensures { Writes result self.old self.new (line_of_counts counts) }
     {
@@ -68,12 +68,12 @@ impl Printer {
         self.put(rest.as_bytes())
     }
 
-    pub fn refusal_line(&mut self, x: Refusal) -> Result<(), AllocError>
-        ensures { Writes result self.old self.new (line_of_refusal x) }
+    pub fn refusal_line(&mut self, refusal: Refusal) -> Result<(), AllocError>
+        ensures { Writes result self.old self.new (line_of_refusal refusal) }
     {
         let line = format!(in self.heap;
             "REFUSED {} PLACE {} LAYER {}\n",
-            x.number, x.place, x.layer
+            refusal.number, refusal.place, refusal.layer
         )?;
         self.put(line.as_bytes())
     }

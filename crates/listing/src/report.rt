@@ -23,7 +23,7 @@ fn wish_count(contracts: &[Contract], trainee: usize) -> usize
 {
     contracts
         .iter()
-        .filter(|c| c.trainee as usize == trainee)
+        .filter(|c| usize::from(c.trainee) == trainee)
         .count()
 }
 
@@ -41,33 +41,33 @@ fn counts_of(deck: &Deck) -> Counts
     }
 }
 
-fn trainee_lines(p: &mut Printer, deck: &Deck) -> Result<(), AllocError>
-    ensures { Writes result p.old p.new
+fn trainee_lines(printer: &mut Printer, deck: &Deck) -> Result<(), AllocError>
+    ensures { Writes result printer.old printer.new
         (lines_of_trainees (bytes_of deck.now) (data_of deck.now) (length (data_of deck.now).trainees)) }
 {
     for (k, trainee) in deck.trainees().iter().enumerate() {
         let n = wish_count(deck.contracts(), k);
-        p.name_line(deck.bytes(), trainee.name, n)?;
+        printer.name_line(deck.bytes(), trainee.name, n)?;
     }
     Ok(())
 }
 
-fn deck_text(p: &mut Printer, deck: &Deck) -> Result<(), AllocError>
-    ensures { Writes result p.old p.new (text_of_deck (bytes_of deck.now) (data_of deck.now)) }
+fn deck_text(printer: &mut Printer, deck: &Deck) -> Result<(), AllocError>
+    ensures { Writes result printer.old printer.new (text_of_deck (bytes_of deck.now) (data_of deck.now)) }
 {
-    p.counts_line(counts_of(deck))?;
-    trainee_lines(p, deck)?;
-    p.put(b"END\n")?;
+    printer.counts_line(counts_of(deck))?;
+    trainee_lines(printer, deck)?;
+    printer.put(b"END\n")?;
     Ok(())
 }
 
 // The line of a refusal, which is printed of all bytes at which it is due.
-fn refused(heap: Global, f: DeckFault) -> Result<Vec<u8>, AllocError>
-    ensures { (all : List ℕ) → Due all (refusal f) → IfOk result (λ v. Outcome all v.items) }
+fn refused(heap: Global, fault: DeckFault) -> Result<Vec<u8>, AllocError>
+    ensures { (all : List ℕ) → Due all (refusal fault) → IfOk result (λ v. Outcome all v.items) }
 {
-    let mut p = Printer::new(heap);
-    p.refusal_line(f.into())?;
-    Ok(p.finish())
+    let mut printer = Printer::new(heap);
+    printer.refusal_line(fault.into())?;
+    Ok(printer.finish())
 }
 
 fn dealt<'a>(
@@ -80,12 +80,12 @@ fn dealt<'a>(
     ensures { IfOk result (λ v. Outcome bytes.now v.items) }
 {
     let mut deck: Deck<'a> = Deck::empty();
-    if let Err(f) = deck.bind(bytes, tables, counts) {
-        return refused(heap, f);
+    if let Err(fault) = deck.bind(bytes, tables, counts) {
+        return refused(heap, fault);
     }
-    let mut p = Printer::new(heap);
-    deck_text(&mut p, &deck)?;
-    Ok(p.finish())
+    let mut printer = Printer::new(heap);
+    deck_text(&mut printer, &deck)?;
+    Ok(printer.finish())
 }
 
 // The text that is printed of these bytes.
@@ -94,7 +94,7 @@ pub fn report(heap: Global, bytes: &[u8]) -> Result<Vec<u8>, AllocError>
 {
     let mut book = Book::default();
     match book.take_in(bytes) {
-        Err(f) => refused(heap, f),
+        Err(fault) => refused(heap, fault),
         Ok(counts) => dealt(heap, bytes, book.tables(), counts),
     }
 }

@@ -1,12 +1,12 @@
 -- Two best lists are the same.
 use Rattle.std.proofs.Common.{◌≡◌, ℕ, ◌<◌, ◌≤◌, true, false, sym, refl, ◌∙◌, subst, ⊎_elim, arith}
 use mathlib.Core.Path.{fun_ext}
-use Rattle.std.proofs.lemmas.Bool.{cases_lt, both_ways}
+use Rattle.std.proofs.lemmas.Bool.{cases_lt, both_ways, true_from_ne_false}
 use Rattle.matching.specs.Sets.{Set}
 use Rattle.matching.specs.Choices.{Choice}
 use Rattle.matching.specs.Market.{Market, Known, Better, Best}
 use Rattle.matching.specs.Facts.{OneBest}
-use Rattle.matching.proofs.Sets.{same_bool, inside}
+use Rattle.matching.proofs.Sets.{same_bool}
 
 -- what a best list gives is in any other: else its trainee would like one of the two better
 module _ (M : Market) (known : Known M) (kept : Choice) (A B : Set) (a : Best M kept A) (b : Best M kept B) where
@@ -23,7 +23,7 @@ module _ (M : Market) (known : Known M) (kept : Choice) (A B : Set) (a : Best M 
           strict ne = ⊎_elim (λ m. m) (λ m. absurd (ne (omega arith))) (cases_lt (M.order j) (M.order k))
 
   pub in_both : (k : ℕ) → A k ≡ true → B k ≡ true
-  in_both k x = inside B k (λ y. b.liked A a.stable (M.trainee k) (k, x, refl, better_or k x y))
+  in_both k x = true_from_ne_false (B k) (λ y. b.liked A a.stable (M.trainee k) (k, x, refl, better_or k x y))
 
 pub one_best : OneBest
 one_best M known kept A B a b = fun_ext (λ k. same_bool _ _ (in_both M known kept A B a b k) (in_both M known kept B A b a k))

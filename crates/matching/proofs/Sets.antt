@@ -1,22 +1,11 @@
 -- Membership in what the operations on lists make.
-use Rattle.std.proofs.Common.{◌≡◌, ℕ, Bool, true, false, not, ◌&&◌, ◌||◌, eqb, ◌⊎◌, sym, refl, ap, ◌∙◌, inl, inr}
-use Rattle.std.proofs.lemmas.Bool.{both_ways, cases_Bool, or_cases, or_left, or_right, eqb-true, eq-eqb, ne_eqb, and_parts, and_from, not-true, not_from_false}
-use Rattle.matching.specs.Sets.{Set, add, minus, less, Part, Within}
-
-pub add_self : (X : Set) (k : ℕ) → add X k k ≡ true
-add_self X k = or_left (eqb k k) (X k) (eq-eqb k k refl)
-
-pub add_old : (X : Set) (k j : ℕ) → X j ≡ true → add X k j ≡ true
-add_old X k j h = or_right (eqb j k) (X j) h
-
-pub add_cases : (X : Set) (k j : ℕ) → add X k j ≡ true → (j ≡ k) ⊎ (X j ≡ true)
-add_cases X k j h = elim (or_cases (eqb j k) (X j) h) [ inl e ↦ inl (eqb-true j k e) | inr x ↦ inr x ]
+use Rattle.std.proofs.Common.{◌≡◌, ℕ, Bool, true, false, not, ◌&&◌, ◌||◌, sym, refl, ap, ◌∙◌}
+use Rattle.std.proofs.lemmas.Bool.{both_ways, false_from_ne_true, ne_eqb, and_parts, and_from, not-true, not_from_false}
+use Rattle.std.proofs.Math.Bool.{and-true, or-false}
+use Rattle.matching.specs.Sets.{Set, minus, less, Part, Within}
 
 pub outside : (X : Set) (k : ℕ) → (X k ≡ true → ⊥) → X k ≡ false
-outside X k h = elim (cases_Bool (X k)) [ inl t ↦ absurd (h t) | inr f ↦ f ]
-
-pub inside : (X : Set) (k : ℕ) → (X k ≡ false → ⊥) → X k ≡ true
-inside X k h = elim (cases_Bool (X k)) [ inl t ↦ t | inr f ↦ absurd (h f) ]
+outside X k h = false_from_ne_true (X k) h
 
 pub minus_in : (X B : Set) (k : ℕ) → X k ≡ true → B k ≡ false → minus X B k ≡ true
 minus_in X B k x b = and_from (X k) _ x (not_from_false (B k) b)
@@ -40,16 +29,10 @@ same_bool false true f g = g refl
 same_bool false false f g = refl
 
 pub and_true : (a : Bool) → (a && true) ≡ a
-and_true true = refl
-and_true false = refl
-
-pub or_true : (a : Bool) → (a || true) ≡ true
-or_true true = refl
-or_true false = refl
+and_true a = and-true a
 
 pub or_false : (a : Bool) → (a || false) ≡ a
-or_false true = refl
-or_false false = refl
+or_false a = or-false a
 
 -- all but the removed one stay
 pub less_other : (X : Set) (z j : ℕ) → (j ≡ z → ⊥) → less X z j ≡ X j

@@ -5,7 +5,8 @@ use Rattle.std.proofs.lemmas.Bool.{and_parts, and_from, and_left, and_right, or_
 use Rattle.matching.specs.Sets.{Set, less, Part, Within}
 use Rattle.matching.specs.Choices.{Choice}
 use Rattle.matching.specs.Facts.{OneRemoved}
-use Rattle.matching.proofs.Sets.{out_of_part, and_true, or_true}
+use Rattle.std.proofs.Math.Bool.{or-true}
+use Rattle.matching.proofs.Sets.{out_of_part, and_true}
 
 -- X without what is below i and not in Y
 abbrev thinned : Set → Set → ℕ → Set
@@ -21,7 +22,7 @@ at_by i U V here other = fun_ext (λ j. ⊎_elim (λ e. let P : ℕ → Type 0 =
 module _ (n : ℕ) (kept : Choice) (one : (X : Set) → Within n X → (z : ℕ) → X z ≡ true → kept X z ≡ false → kept (less X z) ≡ kept X)
     (X Y : Set) (within : Within n X) (w : Part Y X) (v : Part (kept X) Y) where
   start : thinned X Y 0 ≡ X
-  start = fun_ext (λ j. ap (λ t. X j && (Y j || t)) (le-leb 0 j (omega arith)) ∙ ap (λ t. X j && t) (or_true (Y j)) ∙ and_true (X j))
+  start = fun_ext (λ j. ap (λ t. X j && (Y j || t)) (le-leb 0 j (omega arith)) ∙ ap (λ t. X j && t) (or-true (Y j)) ∙ and_true (X j))
 
   stays : (i : ℕ) → (Y i ≡ true) ⊎ (X i ≡ false) → thinned X Y (suc i) ≡ thinned X Y i
   stays i h =

@@ -4,7 +4,7 @@
 ghost use Rattle.matching.specs.Facts.{BesideLawful, FirstLawful, OneBest, OneRemoved, OverLawful, PathIndependent, Settled, WithoutLawful};
 ghost use Rattle.std.specs.Prelude.{IsTrue};
 
-// What holds of every lawful choice.
+// What holds of every lawful choice. This function and the two below do nothing: their contracts are the theorems.
 pub fn lawful_choices_stand() -> bool
     ensures told { IsTrue result }
     ensures settled { Settled }

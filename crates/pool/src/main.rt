@@ -10,8 +10,8 @@ use std::io::{Read, Write};
 // One byte more than the longest deck: all that the size question needs to see.
 const ENOUGH: usize = 15364;
 
-// Fills the buffer from its front until it is full or the input ends, however small the pieces are. The memory is fixed: `read_to_end` would fill a `Vec`, and
-// `read_exact` refuses an input that ends early.
+// Fills the buffer from its front until it is full or the input ends, however small the pieces are. The program reads into one
+// buffer of the most bytes that matter: `read_to_end` wants a `Vec`, and `read_exact` refuses an input that ends early.
 fn fill<R: Read>(input: &mut R, buf: &mut [u8]) -> io::Result<usize>
     ensures { IfOk result (λ n. n ≤ length buf.new) }
 {
@@ -52,6 +52,7 @@ mod tests {
         fn read(&mut self, buf: &mut [u8]) -> io::Result<usize> {
             let n = self.piece.min(self.left).min(buf.len());
             self.left -= n;
+            // Over the bytes of the piece.
             for byte in buf[..n].iter_mut() {
                 *byte = self.next;
                 self.next = self.next.wrapping_add(1);

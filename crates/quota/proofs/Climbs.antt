@@ -1,7 +1,7 @@
 -- The climb: one contract more, carried upwards until a group without parent was passed or a full group is met.
-use Rattle.std.proofs.Common.{◌≡◌, ℕ, ◌+◌, ◌-◌, ◌<◌, ◌≤◌, min, Bool, true, false, cond, eqb, ltb, List, length, Some, None, Option, sym, refl, ap, ◌∙◌, subst, ⊎_elim, arith}
+use Rattle.std.proofs.Common.{◌≡◌, ℕ, ◌+◌, ◌-◌, ◌<◌, ◌≤◌, min, Bool, true, false, cond, ltb, List, length, Some, None, Option, sym, refl, ap, ◌∙◌, subst, ⊎_elim, arith}
 use Rattle.std.proofs.lemmas.List.{length-set, get_or-set_same, get_or-set_other}
-use Rattle.std.proofs.lemmas.Bool.{eq-eqb, ne_eqb, cases_eq, cond-true, cond-false, lt-ltb, le-ltb, ltb-true, ltb-false}
+use Rattle.std.proofs.lemmas.Bool.{eq-eqb, cases_eq, cond-true, cond-false, lt-ltb, le-ltb, ltb-true, ltb-false}
 use Rattle.std.proofs.lemmas.Option.{none-some, same_Some}
 use Rattle.quota.specs.declared.row.Row.{Row}
 use Rattle.quota.specs.declared.sums.Sums.{Sums}
@@ -15,16 +15,6 @@ pub record Pending (rows : List Row) (S o : ℕ → ℕ) (v : ℕ) : Type 0 wher
   pub others : (w : ℕ) → w < 64 → (w ≡ v → ⊥) → S w ≡ min (cap_of rows w) (kids (parent_of rows) S w + o w)
   pub some : 1 ≤ kids (parent_of rows) S v + o v
   pub lacks : S v ≡ min (cap_of rows v) ((kids (parent_of rows) S v + o v) - 1)
-
-pending_none : (rows : List Row) (S o : ℕ → ℕ) (g : ℕ) → g < 64 → Filled rows S o → Pending rows S (one_more o g) g
-pending_none rows S o g l f = record {
-  others = λ w i ne. let a : ◌≡◌ {A = ℕ} (cond (eqb g w) 1 0) 0 = cond-false _ _ _ (ne_eqb g w (λ e. ne (sym e))) in let b = f w i in omega arith;
-  some = omega (arith, one);
-  lacks = let b = f g l in omega (arith, one);
-}
-  where
-    one : ◌≡◌ {A = ℕ} (cond (eqb g g) 1 0) 1
-    one = cond-true _ _ _ (eq-eqb g g refl)
 
 pending_full : (rows : List Row) (S o : ℕ → ℕ) (v : ℕ) → v < 64 → Pending rows S o v → cap_of rows v ≤ S v → Filled rows S o
 pending_full rows S o v l p full w i = ⊎_elim
@@ -75,16 +65,6 @@ pub record Climbing (rows : List Row) (from s : Sums) (g v : ℕ) : Type 0 where
   pub answer : stop (parent_of rows) (below_cap rows from) g ≡ stop (parent_of rows) (below_cap rows from) v
   pub still : (w : ℕ) → w ≤ v → sum_of s w ≡ sum_of from w
   pub counted : (own : ℕ → ℕ) → Filled rows (sum_of from) own → Pending rows (sum_of s) (one_more own g) v
-
-pub climbing_none : (rows : List Row) (from : Sums) (g : ℕ) → length from.counts ≡ 64 → g < 64 → Climbing rows from from g g
-climbing_none rows from g len l = record {
-  within = l;
-  long = len;
-  dredger = refl;
-  answer = refl;
-  still = λ w i. refl;
-  counted = λ own f. pending_none rows (sum_of from) own g l f;
-}
 
 -- the turn at v
 module _ {rows : List Row} {from s : Sums} {g v : ℕ} (ea : Earlier rows) (c : Climbing rows from s g v) where

@@ -8,6 +8,11 @@ use Rattle.std.proofs.lemmas.Bool.{and_right, eq-eqb, eqb-true, eqb-false, ne_eq
 use Rattle.rules.specs.declared.table.Rule.TheVariants.{Rank}
 use Rattle.rules.specs.declared.table.Contract.{Contract}
 use Rattle.rules.specs.Contents.{contract_at}
+use Rattle.deck.specs.declared.deck.Deck.{Deck}
+use Rattle.deck.specs.Contents.{data_of}
+use Rattle.board.specs.declared.marked.Marked.{Marked}
+use Rattle.board.specs.Marked.{contracts_of, deck_of, list_of, marks_of}
+use Rattle.board.specs.Marks.{member}
 use Rattle.matching.specs.Sets.{Set}
 use Rattle.matching.proofs.Sets.{and_true}
 use Rattle.ranking.specs.Rows.{Ordered, InRow}
@@ -153,6 +158,9 @@ walking_all {rows} {cs} {X} {ns} {s} {stops} o h w n m x =
     let f = lined_all o n m x in
     ap (λ j. get_or stops j None) (sym f.2) ∙ w.told f.0 (omega (arith, f.1)) ∙ ap (λ j. stopped_at rows cs X j) f.2
 
--- what is lent of a row stands in its order
-pub lent_order : {cs : List Contract} {X : Set} {row : List ℕ} (ns : List ℕ) → ns ≡ row → InRow Rank cs X row → Ordered Rank cs X ns
-lent_order {cs} {X} ns e r = let P : List ℕ → Type 0 = λ xs. Ordered Rank cs X xs in subst P (sym e) r.ordered
+-- what is lent of a row of a copied list stands in the order of the list
+pub listed_order : {d : Deck} {marks ns row : List ℕ} (m : Marked) → (deck_of m ≡ d) × (marks_of m ≡ marks) → ns ≡ row → InRow Rank (contracts_of m) (list_of m) row
+    → Ordered Rank (data_of d).contracts (member marks) ns
+listed_order {d} {marks} {ns} m c e r =
+    subst (λ xs. Ordered Rank (data_of d).contracts (member xs) ns) c.1
+    (subst (λ x. Ordered Rank (data_of x).contracts (list_of m) ns) c.0 (subst (Ordered Rank (contracts_of m) (list_of m)) (sym e) r.ordered))

@@ -13,13 +13,14 @@ use crate::row::Row;
 use crate::sums::Sums;
 use board::board::Board;
 use board::explain::Explain;
+use board::marked::Marked;
 use board::marks::{is_listed, keep_only};
 use board::unfit::Unfit;
 use deck::deck::Deck;
 use ranking::row::line_up;
 use rules::table::Contract;
 
-// The laws speak of a board as a value, which has no array's length of its own: hence `whole`.
+// The laws take a board as a value, of which only its fields' lists are known: that its rows are 64 is therefore an invariant.
 #[derive(Drop)]
 pub struct Quota {
     rows: [Row; 64],
@@ -27,6 +28,7 @@ pub struct Quota {
     ghost earlier: { Earlier rows },
 }
 
+// A group comes by its number in the deck's entries, which hold plain numbers: hence each `requires` of a number below 64.
 impl Quota {
     // The board of a deck's groups. A row that the deck has no group for has no parent and cap 0.
     pub fn of(deck: &Deck) -> Quota
@@ -34,6 +36,7 @@ impl Quota {
     {
         let groups = deck.groups();
         let mut rows = [Row::default(); 64];
+        // A `zip` with `rows.iter_mut()` would tell nothing of the rows afterwards.
         for (v, group) in groups.iter().enumerate() {
             rows[v] = Row::from(group);
         }
@@ -96,7 +99,8 @@ impl Quota {
     fn find_stops(&self, deck: &Deck, marks: &[u8]) -> Result<[Option<u8>; 2048], Unfit>
         ensures { Found self.now.rows (data_of deck.now).contracts marks.now result }
     {
-        let row = line_up(deck, marks, rules::table::Rule::Rank)?;
+        let list = Marked::of(deck, marks)?;
+        let row = line_up(&list, rules::table::Rule::Rank);
         Ok(self.walk(deck, &row))
     }
 }

@@ -14,15 +14,15 @@ use Rattle.rules.specs.declared.table.Rule.{Rule}
 use Rattle.rules.specs.declared.table.Rule.TheVariants.{Rank, Lot, Term}
 use Rattle.matching.specs.Sets.{Set, rising}
 use Rattle.ranking.specs.declared.key.Key.{Key}
-use Rattle.ranking.specs.contracts.key.KeyOrd.TheImpl.Laws.{total-law}
 use Rattle.ranking.specs.Keys.{compared, key_at, keys_below, numbers, Sorted, Placed}
 use Rattle.ranking.specs.Rows.{precedes, Ordered, InRow}
+use Rattle.ranking.specs.Total.{compared_total}
 use Rattle.ranking.proofs.Risings.{shuffled_apart}
 
 -- what a sort of keys ensures
 pub rises_from_sort : (ks : List Key) → IsSorted compared ks
     → (i j : ℕ) (d : Key) → i < j → j < length ks → is_lt (compared (get_or ks j d) (get_or ks i d)) ≡ false
-rises_from_sort ks up i j d l h = sorted_far (λ x y. is_lt (compared x y)) (ranks_by total-law (λ x. x)) ks up i j d (omega arith) h
+rises_from_sort ks up i j d l h = sorted_far (λ x y. is_lt (compared x y)) (ranks_by compared_total (λ x. x)) ks up i j d (omega arith) h
 
 -- of two contracts, the one whose key is not above the other's comes first
 not_above : (rule : Rule) (cs : List Contract) (i j : ℕ) → (i ≡ j → ⊥)

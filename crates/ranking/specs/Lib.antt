@@ -1,3 +1,4 @@
 pub mod Keys
 pub mod Rank
 pub mod Rows
+pub mod Total

@@ -1,14 +1,10 @@
 -- The contracts of a list in a row: one dredger after the other, and within each by a rule.
-use Rattle.std.specs.Prelude.{◌≡◌, ℕ, ◌<◌, ◌≤◌, Bool, true, ◌&&◌, ◌||◌, List, length, Ok, Err, Result, nat_lt, slice_index}
+use Rattle.std.specs.Prelude.{◌≡◌, ℕ, ◌<◌, ◌≤◌, Bool, true, ◌&&◌, ◌||◌, List, length, nat_lt, slice_index}
 use Rattle.std.specs.List.Sorted.{IsPermutation}
-use Rattle.arrayvec.specs.ArrayVec.{ArrayVec}
 use Rattle.rules.specs.declared.table.Contract.{Contract}
 use Rattle.rules.specs.declared.table.Rule.{Rule}
 use Rattle.rules.specs.Contents.{contract_at}
 use Rattle.matching.specs.Sets.{Set, rising}
-use Rattle.board.specs.declared.unfit.Unfit.{Unfit}
-use Rattle.board.specs.Marks.{member}
-use Rattle.board.specs.Refusals.{number, asks_marks}
 use Rattle.ranking.specs.Rank.{together, prefers}
 
 -- contract i comes before contract j in the row
@@ -21,12 +17,7 @@ pub record Ordered (rule : Rule) (cs : List Contract) (X : Set) (ns : List ℕ) 
   pub same : IsPermutation (rising (length cs) X) ns
   pub sorted : (i j : ℕ) → i < j → j < length ns → precedes rule cs (slice_index ns i) (slice_index ns j) ≡ true
 
--- a row of the contracts of X
+-- a row of the contracts of X, of at most so many as a deck has
 pub record InRow (rule : Rule) (cs : List Contract) (X : Set) (row : List ℕ) : Type 0 where
   pub few : length row ≤ 2048
   pub ordered : Ordered rule cs X row
-
--- `line_up`: the row of the marked contracts, or 31
-abbrev pub Lined : Rule → List Contract → List ℕ → Result (ArrayVec ℕ) Unfit → Type 0
-Lined rule cs marks (Ok row) = (length marks ≡ length cs) × InRow rule cs (member marks) row.items
-Lined rule cs marks (Err e) = number e ≡ asks_marks (length cs) (length marks)

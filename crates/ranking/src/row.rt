@@ -1,14 +1,12 @@
 // The contracts of a list in a row.
 ghost use Rattle.std.specs.Prelude.{◌≡◌, ◌≤◌, length};
-ghost use Rattle.deck.specs.Contents.{data_of};
+ghost use Rattle.board.specs.Marked.{contracts_of, list_of};
 ghost use Rattle.ranking.specs.Keys.{Placed, numbers};
-ghost use Rattle.ranking.specs.Rows.{Lined};
+ghost use Rattle.ranking.specs.Rows.{InRow};
 
 use crate::key::{Key, key_of};
 use arrayvec::ArrayVec;
-use board::marks::{fit, is_in};
-use board::unfit::Unfit;
-use deck::deck::Deck;
+use board::marked::Marked;
 use rules::table::Rule;
 
 fn numbers(keys: &[Key]) -> ArrayVec<u16, 2048>
@@ -16,6 +14,7 @@ fn numbers(keys: &[Key]) -> ArrayVec<u16, 2048>
     ensures { result.items ≡ numbers keys.now }
 {
     let mut row = ArrayVec::new();
+    // `collect` into an ArrayVec wants an allocator, and answers a Result.
     for key in keys {
         row.push(key.number);
     }
@@ -31,17 +30,17 @@ fn place(mut keys: ArrayVec<Key, 2048>) -> ArrayVec<u16, 2048>
     numbers(&keys)
 }
 
-// The marked contracts in a row: one dredger after the other, and within each by the rule.
-pub fn line_up(deck: &Deck, marks: &[u8], rule: Rule) -> Result<ArrayVec<u16, 2048>, Unfit>
-    ensures { Lined rule (data_of deck.now).contracts marks.now result }
+// The contracts of a list in a row: one dredger after the other, and within each by the rule.
+pub fn line_up(list: &Marked, rule: Rule) -> ArrayVec<u16, 2048>
+    ensures { InRow rule (contracts_of list.now) (list_of list.now) result.items }
 {
-    fit(deck, marks)?;
-    let contracts = deck.contracts();
     let mut keys = ArrayVec::new();
-    for (k, contract) in contracts.iter().enumerate() {
-        if is_in(marks, k) {
-            keys.push(key_of(rule, contract, k as u16));
+    // As in `numbers`, a loop pushes.
+    for (k, contract) in list.contracts().iter().enumerate() {
+        let number = k as u16;
+        if list.has(number) {
+            keys.push(key_of(rule, contract, number));
         }
     }
-    Ok(place(keys))
+    place(keys)
 }

@@ -1,6 +1,7 @@
 -- A row of contracts, cut where the reserved places end.
 use Rattle.std.specs.Prelude.{◌≡◌, ℕ, zero, suc, ◌+◌, ◌<◌, ◌≤◌, Bool, true, false, cond, not, ◌&&◌, ◌||◌, ltb, List, [], ◌∷◌, ◌++◌, length, take, count_by, ◌==◌, ◌≢◌, nat_eq, nat_lt, slice_index, slice_index_or, refl}
 use Rattle.std.proofs.Common.{sym, ◌∙◌, ap, subst, ⊎_elim, arith}
+use Rattle.std.proofs.Math.Bool.{or_assoc}
 use Rattle.std.proofs.Math.Path.{fun_ext}
 use Rattle.std.proofs.lemmas.List.{get_or_past, length-take, take_more, take_all}
 use Rattle.std.proofs.lemmas.List.Sums.{sum_by_more, count_by-le-length}
@@ -32,13 +33,9 @@ abbrev pub among : List ℕ → ℕ → Bool
 among [] k = false
 among (x ∷ xs) k = k == x || among xs k
 
-or_swap : (a b c : Bool) → (a || (b || c)) ≡ ((a || b) || c)
-or_swap true b c = refl
-or_swap false b c = refl
-
 among_push : (xs : List ℕ) (x k : ℕ) → among (xs ++ x ∷ []) k ≡ (among xs k || k == x)
 among_push [] x k = or_false (k == x)
-among_push (y ∷ ys) x k = ap (λ b. (k == y) || b) (among_push ys x k) ∙ or_swap (k == y) (among ys k) (k == x)
+among_push (y ∷ ys) x k = ap (λ b. (k == y) || b) (among_push ys x k) ∙ sym (or_assoc (k == y) (among ys k) (k == x))
 
 among_more : (xs : List ℕ) (i k : ℕ) → i < length xs → among (take (i + 1) xs) k ≡ (among (take i xs) k || k == slice_index xs i)
 among_more xs i k l = ap (λ ys. among ys k) (take_more xs i 0 l) ∙ among_push (take i xs) (slice_index xs i) k

@@ -20,8 +20,8 @@ abbrev pub places_in : Reserves → List ℕ
 places_in s = s.places
 
 -- the places that a layer reserves at a dredger
-abbrev pub seats_of : {C : Type 0} → Reserve C → ℕ → ℕ
-seats_of s v = slice_index (places_in s.reserves) v
+abbrev pub reserved_at : {C : Type 0} → Reserve C → ℕ → ℕ
+reserved_at s v = slice_index (places_in s.reserves) v
 
 -- the reserve part by these places
 abbrev pub part_of : {C : Type 0} → Reserve C → Content → Choice

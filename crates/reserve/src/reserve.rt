@@ -11,6 +11,7 @@ use board::marks::{is_in, is_listed, put_in, take_out};
 use board::unfit::Unfit;
 use deck::deck::Deck;
 
+// A type of its own beside the other layer, which holds another table.
 #[derive(Drop)]
 pub struct Reserve<C> {
     below: C,
@@ -18,13 +19,13 @@ pub struct Reserve<C> {
 }
 
 impl<C> Reserve<C> {
-    ghost use Rattle.reserve.specs.Reserve.{seats_of};
+    ghost use Rattle.reserve.specs.Reserve.{reserved_at};
     ghost use Rattle.reserve.specs.Reserves.{seats_for};
 
     // The reserves of a deck, on this board.
     pub fn of(below: C, deck: &Deck) -> Reserve<C>
         ensures below { result.below ≡ below }
-        ensures reserves { (v : ℕ) → seats_of result v ≡ seats_for (data_of deck.now).reserves v }
+        ensures reserves { (v : ℕ) → reserved_at result v ≡ seats_for (data_of deck.now).reserves v }
     {
         Reserve {
             below,

@@ -10,6 +10,7 @@ use deck::deck::Deck;
 use ranking::row::line_up;
 use rules::table::{Contract, Reservation, Rule};
 
+// A place for each dredger that a deck may have. Entries hold plain numbers, and that a dredger's is below 64 is known of a deck's alone.
 #[derive(Drop)]
 pub struct Reserves {
     places: [u16; 64],
@@ -23,7 +24,7 @@ fn places_of(reserves: &[Reservation]) -> [u16; 64]
 {
     let mut places = [0; 64];
     for entry in reserves {
-        places[entry.dredger as usize] = entry.seats;
+        places[usize::from(entry.dredger)] = entry.seats;
     }
     places
 }
@@ -35,8 +36,8 @@ fn count_one(seen: &mut [u16; 64], dredger: u8) -> u16
     ensures before { result ≡ slice_index seen.old dredger }
     ensures after { (v : ℕ) → slice_index seen.new v ≡ slice_index seen.old v + (if nat_eq dredger v then 1 else 0) }
 {
-    let before = seen[dredger as usize];
-    seen[dredger as usize] = before + 1;
+    let before = seen[usize::from(dredger)];
+    seen[usize::from(dredger)] = before + 1;
     before
 }
 
@@ -63,7 +64,7 @@ impl Reserves {
     fn at(&self, dredger: u8) -> u16
         ensures { result ≡ slice_index (places_in self.now) dredger }
     {
-        self.places.get(dredger as usize).copied().unwrap_or(0)
+        self.places.get(usize::from(dredger)).copied().unwrap_or(0)
     }
 
     // Is the contract flagged, at a dredger with reserved places?
@@ -84,7 +85,7 @@ impl Reserves {
         ensures taken { list_of taken.new
             ≡ left (has_room (places_in self.now) seen.old (contracts_of taken.old) k) (list_of taken.old) k }
     {
-        let dredger = taken.contracts()[k as usize].dredger;
+        let dredger = taken.contracts()[usize::from(k)].dredger;
         if count_one(seen, dredger) >= self.at(dredger) {
             taken.take(k);
         }
@@ -110,7 +111,7 @@ impl Reserves {
         let contracts = deck.contracts();
         let mut taken = Marked::of(deck, marks)?;
         taken.keep(|k| self.entitles(&contracts[k]));
-        let row = line_up(deck, taken.marks(), Rule::Rank)?;
+        let row = line_up(&taken, Rule::Rank);
         self.cut(&row, &mut taken);
         Ok(taken)
     }

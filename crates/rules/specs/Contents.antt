@@ -1,5 +1,5 @@
 -- What six tables hold, without the memory that holds it.
-use Rattle.std.specs.Prelude.{◌≡◌, ℕ, ◌<◌, ◌≤◌, false, zero, suc, List, [], None, Result, MatchResult, slice_index_or}
+use Rattle.std.specs.Prelude.{◌≡◌, ℕ, ◌<◌, ◌≤◌, false, zero, suc, List, [], Some, None, Option, Result, MatchResult, slice_index_or, if◌then◌else◌, ◌==◌}
 use Rattle.rules.specs.declared.table.Group.{Group}
 use Rattle.rules.specs.declared.table.Rule.{Rule}
 use Rattle.rules.specs.declared.table.Rule.TheVariants.{Rank, Lot, Term}
@@ -31,6 +31,10 @@ content_of t = record {
 
 abbrev pub nothing : Content
 nothing = record { groups = []; seats = []; reserves = []; trainees = []; contracts = []; bars = [] }
+
+-- the parent that a byte gives
+abbrev pub parent_of : ℕ → Option ℕ
+parent_of p = if p == 255 then None else Some p
 
 -- the rule that a byte stands for: by rank, by lot or by term
 abbrev pub rule_of : ℕ → Rule

@@ -13,6 +13,7 @@ pub enum RecordFault {
     Repeat { place: usize },
 }
 
+// Each layer of faults takes the one below by an impl of its own.
 impl From<ByteFault> for RecordFault {
     ghost from_gives = { λ byte_fault fault. fault ≡ record_fault_of byte_fault };
 

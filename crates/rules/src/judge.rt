@@ -4,7 +4,10 @@ ghost use Rattle.rules.specs.Contents.{content_of};
 ghost use Rattle.rules.specs.Rules.{Fresh, InRange, IsDredger, IsParent, Printable, Room, RuleNo, Ruled};
 
 use crate::fault::RecordFault;
-use crate::table::{Group, NO_PARENT, Rule, Tables};
+use crate::table::{
+    Group, MOST_BARS, MOST_CONTRACTS, MOST_GROUPS, MOST_RESERVES, MOST_SEATS, MOST_TRAINEES, Rule,
+    Tables, parent_of,
+};
 use format::record::{Kind, Record};
 
 // Whether a table of this kind has an entry left under its most.
@@ -12,12 +15,12 @@ fn has_room(next: Kind, past: Tables) -> bool
     ensures { Decides result (Room (content_of past.entry) next) }
 {
     match next {
-        Kind::Group => past.groups.len() < 64,
-        Kind::Seat => past.seats.len() < 256,
-        Kind::Reserve => past.reserves.len() < 64,
-        Kind::Trainee => past.trainees.len() < 256,
-        Kind::Wish => past.contracts.len() < 2048,
-        Kind::Bar => past.bars.len() < 128,
+        Kind::Group => past.groups.len() < MOST_GROUPS,
+        Kind::Seat => past.seats.len() < MOST_SEATS,
+        Kind::Reserve => past.reserves.len() < MOST_RESERVES,
+        Kind::Trainee => past.trainees.len() < MOST_TRAINEES,
+        Kind::Wish => past.contracts.len() < MOST_CONTRACTS,
+        Kind::Bar => past.bars.len() < MOST_BARS,
         Kind::End => true,
     }
 }
@@ -33,15 +36,15 @@ fn is_dredger(groups: &[Group], number: u8) -> bool
     ensures { Decides result (IsDredger groups.now number) }
 {
     groups
-        .get(number as usize)
+        .get(usize::from(number))
         .is_some_and(|group| group.parent.is_none())
 }
 
-// Whether a parent is none or an earlier group.
+// Whether a parent is none or an earlier group: here the record's raw byte is judged.
 fn is_parent(groups: &[Group], parent: u8) -> bool
     ensures { Decides result (IsParent groups.now parent) }
 {
-    parent == NO_PARENT || (parent as usize) < groups.len()
+    parent_of(parent).is_none_or(|p| usize::from(p) < groups.len())
 }
 
 // Whether each field is in its range.
@@ -54,7 +57,7 @@ fn in_range(rec: Record, groups: &[Group]) -> bool
             && Rule::try_from(rule).is_ok(),
         Record::Reserve { dredger, .. } => is_dredger(groups, dredger),
         Record::Trainee { flag, name, .. } => flag <= 1 && is_printable(&name),
-        Record::Wish { group, term, .. } => (group as usize) < groups.len() && term <= 9,
+        Record::Wish { group, term, .. } => usize::from(group) < groups.len() && term <= 9,
         Record::Bar { dredger } => is_dredger(groups, dredger),
         Record::End { .. } => true,
     }
@@ -70,15 +73,11 @@ fn is_fresh(rec: Record, past: Tables) -> bool
         Record::Reserve { dredger, .. } => past.reserves.iter().all(|e| e.dredger != dredger),
         Record::Trainee { lot, .. } => past.trainees.iter().all(|e| e.lot != lot),
         Record::Wish { group, .. } => {
-            let dredger = past.groups[group as usize].dredger;
-            past.contracts
-                .iter()
-                .all(|e| e.trainee as usize != trainee || e.dredger != dredger)
+            let dredger = past.groups[usize::from(group)].dredger;
+            past.contracts.iter().all(|e| usize::from(e.trainee) != trainee || e.dredger != dredger)
         }
-        Record::Bar { dredger } => past
-            .bars
-            .iter()
-            .all(|e| e.trainee as usize != trainee || e.dredger != dredger),
+        Record::Bar { dredger } => past.bars.iter().all(|e| usize::from(e.trainee) != trainee
+            || e.dredger != dredger),
         _ => true,
     }
 }

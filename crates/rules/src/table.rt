@@ -1,8 +1,29 @@
 // The entries of the six tables. A default entry is blank: all zero, a group without parent.
-ghost use Rattle.rules.specs.Contents.{RuleGiven};
+ghost use Rattle.std.specs.Prelude.{◌≡◌};
+ghost use Rattle.rules.specs.Contents.{RuleGiven, parent_of};
+
+// The most entries of each table.
+pub const MOST_GROUPS: usize = 64;
+
+pub const MOST_SEATS: usize = 256;
+
+pub const MOST_RESERVES: usize = 64;
+
+pub const MOST_TRAINEES: usize = 256;
+
+pub const MOST_CONTRACTS: usize = 2048;
+
+pub const MOST_BARS: usize = 128;
 
 // The parent byte of a group without parent: a dredger.
-pub const NO_PARENT: u8 = 255;
+const NO_PARENT: u8 = 255;
+
+// The parent that a byte gives.
+pub fn parent_of(byte: u8) -> Option<u8>
+    ensures { result ≡ parent_of byte }
+{
+    (byte != NO_PARENT).then_some(byte)
+}
 
 // `name` is the place of the name's first byte in the deck. `dredger` is the group without parent that is reached by following parents.
 #[derive(Clone, Copy, PartialEq, Eq, Debug, Default)]
@@ -13,7 +34,7 @@ pub struct Group {
     pub dredger: u8,
 }
 
-// In which order a seat takes its dredger's wishes: by rank; by lower lot, then lower number; by lower term, then rank.
+// By which rule a contract is the best one for a seat of its dredger: by rank; by lower lot, then lower number; by lower term, then rank.
 #[derive(Clone, Copy, PartialEq, Eq, Debug, Default)]
 pub enum Rule {
     #[default]
@@ -79,7 +100,7 @@ pub struct Barring {
 }
 
 // The six tables, for reading.
-#[derive(Clone, Copy, PartialEq, Eq, Debug)]
+#[derive(Clone, Copy, PartialEq, Eq, Debug, Default)]
 pub struct Tables<'a> {
     pub groups: &'a [Group],
     pub seats: &'a [Seat],

@@ -15,7 +15,7 @@ use board::marks::{is_in, is_listed, keep_only};
 use board::unfit::Unfit;
 use deck::deck::Deck;
 
-// Is contract k of the list not in the rest, so that a seat took it?
+// Is contract k not in the rest? That is so of whatever isn't there; of a contract of the list it says that a seat took it.
 fn is_gone(rest: &Marked, k: usize) -> bool
     ensures { result ≡ not (list_of rest.now k) }
 {

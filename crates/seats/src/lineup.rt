@@ -37,7 +37,7 @@ impl Lineup {
     pub(crate) fn of(rest: &Marked, rule: Rule) -> Lineup
         ensures { Ready rule rest.now result }
     {
-        let numbers = line_up(rest.deck(), rest.marks(), rule).unwrap();
+        let numbers = line_up(rest, rule);
         let next = starts(rest.contracts(), &numbers);
         Lineup { numbers, next }
     }

@@ -14,7 +14,8 @@ pub(crate) struct Lineups {
     term: Option<Lineup>,
 }
 
-// The best contract left for a seat, in the lineup of its rule. Of a lineup that a closure makes, `get_or_insert_with` promises nothing.
+// The best contract left for a seat, in the lineup of its rule. `get_or_insert_with` ensures of a new lineup what its closure does; tried, also with a clause
+// on the closure, the check tells nothing of the lineup at that call, and finds no proof.
 fn best_of(lineup: &mut Option<Lineup>, rest: &Marked, seat: &Seat) -> Option<u16>
     requires { Stands seat.now.rule rest.now lineup.old }
     ensures best { Takes seat.now rest.now result }

@@ -23,6 +23,7 @@ fn layer_of(number: u8) -> Layer {
     }
 }
 
+// Written out, so that no expected value comes from the code that is tried.
 pub fn refusal(number: u8, place: usize) -> Refusal {
     Refusal {
         number,

@@ -14,6 +14,7 @@ fn last_start(starts: &[usize], end: usize) -> usize {
 
 // A front that ends with a whole record lacks a byte (3); one that ends inside a record has it short (6).
 fn fronts_refused(rt: &impl Abort, deck: &[u8], starts: &[usize]) {
+    // Each cut, by its number.
     for end in 0..deck.len() {
         let start = last_start(starts, end);
         let number = if start == end { 3 } else { 6 };

@@ -17,6 +17,7 @@ const FRONTS: [Case; 10] = [
     Case(b"E\0\0E", 11, 3),
 ];
 
+// A front, and zeros after it.
 fn padded(heap: Global, front: &[u8], size: usize) -> Result<Vec<u8>, AllocError> {
     let mut deck = Vec::from_slice(heap, front)?;
     deck.resize(size, 0)?;

@@ -34,6 +34,7 @@ impl<'a> Sample<'a> {
     }
 }
 
+// Written out, since a constant calls no function.
 pub const NO_ENTRIES: Tables<'static> = Tables {
     groups: &[],
     seats: &[],

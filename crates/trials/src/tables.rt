@@ -156,6 +156,7 @@ impl HeapTables {
             && self.bars.iter().all(|entry| *entry == OLD_BARRING)
     }
 
+    // As of a book, but of tables on the heap, of any sizes.
     pub fn tables(&self) -> Tables<'_> {
         Tables {
             groups: &self.groups,

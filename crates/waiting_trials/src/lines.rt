@@ -55,6 +55,7 @@ fn a_queue_takes_the_oldest(rt: HostRuntime) {
     tells(&rt, &line, 3, 0);
 }
 
+// The stack's own expected values.
 #[test]
 fn a_stack_takes_the_newest(rt: HostRuntime) {
     let mut memory = [9; 3];

@@ -90,6 +90,7 @@ fn follows<T: Sample + Copy + Clone + PartialEq + Debug + Drop>(
     let mut strip = Strip::new(&mut memory);
     let mut list = Vec::new(heap);
     let mut x: u8 = 0;
+    // The number itself goes into the move.
     for i in 0..256 {
         let at = Stage {
             elements: T::ELEMENTS,

@@ -3,7 +3,7 @@ use crate::full::{holds, put_all};
 use std::process::Abort;
 use strip::row::{Full, Strip};
 
-// Goes on from a full strip whose oldest is 0 and which counts up: the oldest is taken, and a number takes its place.
+// Goes on from a full strip whose oldest is 0 and which counts up: the oldest is taken, and a number takes its place. The numbers are what is put and taken.
 fn go_round<'a>(rt: &impl Abort, strip: &mut Strip<'a, u8>, places: u8) {
     for i in 0..=255 {
         assert_eq!(rt; strip.put(99), Err(Full::NoPlace), "round {i}");
@@ -12,7 +12,7 @@ fn go_round<'a>(rt: &impl Abort, strip: &mut Strip<'a, u8>, places: u8) {
     }
 }
 
-// The newest is put and taken at each place of the memory.
+// The newest is put and taken at each place of the memory. The numbers are what is put and taken.
 fn go_back<'a>(rt: &impl Abort, strip: &mut Strip<'a, u8>) {
     for i in 0..=255 {
         assert_eq!(rt; strip.put(i), Ok(()), "round {i}");

@@ -55,6 +55,7 @@ fn a_whole_queue(rt: HostRuntime) {
     taken(&rt, &mut line, &[4, 3, 2, 1]);
 }
 
+// The stack's own expected values.
 #[test]
 fn a_whole_stack(rt: HostRuntime) {
     let mut memory = [9; 4];

@@ -5,5 +5,5 @@ use Rattle.listing.proofs.report.refused.Goals as goal
 
 pub returns : goal.returns
 returns c all due =
-    refused_text all c.finish.result.items (written c.new-p.result) (written c.refusal_line.new.self) (refusal c.args.f) c.into.result
-    due c.into.ensures c.new-p.ensures c.in_ok-refusal_line.ensures c.finish.ensures
+    refused_text all c.finish.result.items (written c.new-printer.result) (written c.refusal_line.new.self) (refusal c.args.fault) c.into.result
+    due c.into.ensures c.new-printer.ensures c.in_ok-refusal_line.ensures c.finish.ensures

@@ -4,4 +4,4 @@ use Rattle.listing.specs.Print.{Grew, written}
 use Rattle.listing.proofs.report.trainee_lines.Given as goal
 
 abbrev pub invariant-loop-k : goal.invariant-loop-k
-invariant-loop-k l = Grew (written l.initial.p) (written l.p) (lines_of_trainees (bytes_of l.deck) (data_of l.deck) l.k)
+invariant-loop-k l = Grew (written l.initial.printer) (written l.printer) (lines_of_trainees (bytes_of l.deck) (data_of l.deck) l.k)

@@ -4,7 +4,4 @@ use Rattle.ranking.proofs.row.line_up.Goals as goal
 
 pub returns : goal.returns
 returns c =
-    let e = c.contracts-contracts.ensures in (
-      c.in_ok-fit.ensures,
-      placed_row _ _ c.loop-k.k _ _ _ c.place.ensures.few (omega (arith, ap length e)) (rw e at c.loop-k.invariant.1) c.place.ensures.placed,
-    )
+    placed_row _ _ c.loop-k.k _ _ _ c.place.ensures.few (omega (arith, ap length c.contracts-contract-items.ensures)) c.loop-k.invariant.1 c.place.ensures.placed

@@ -21,10 +21,10 @@ returns-then-bars g c =
     let cs = c.contracts-contracts.result.now in
     let listed = c.in_ok-is_listed.ensures in
     let b : barred ps t.contracts k ≡ true =
-    read_at (barred ps cs) (barred ps t.contracts) k true (ap (λ (z : List Contract). barred ps z) c.contracts-contracts.ensures) c.if-bars.ensures in
+    read_at (barred ps cs) (barred ps t.contracts) k true (ap (λ (z : List Contract). barred ps z) c.contracts-contracts.ensures) (rw c.from.ensures at c.if-bars.ensures) in
     let e = explained_struck (g.C.Board.kept s.below t) (g.C.Explain.reason s.below t) (barred ps t.contracts) (λ j. (4, (contract_at t.contracts j).dredger))
     (length t.contracts) c.args.marks.now k (g.met.C.Board.part s.below t (bytes_of d, d.lawful)) listed.0 listed.1 (sym listed.2 ∙ c.if-not-branch.false) b in
-    (e.0, e.1, said_of cs t.contracts k c.from.result _ c.from.ensures c.contracts-contracts.ensures e.2)
+    (e.0, e.1, said_of cs t.contracts k c.from-then-bars.result _ (c.from-then-bars.ensures ∙ ap (λ i. (contract_at cs i).dredger) c.from.ensures) c.contracts-contracts.ensures e.2)
 
 pub returns : goal.returns
 returns g c =
@@ -42,4 +42,4 @@ returns g c =
     (c.marks.ensures ∙ c.keep.ensures.kept (λ j. not (B j)) (λ j b h q. search rules)) in
     explained_without (g.C.Board.kept s.below t) (g.C.Explain.reason s.below t) (barred ps t.contracts) (λ j. (4, (contract_at t.contracts j).dredger))
     (length t.contracts) c.args.marks.now c.marks.result.now k c.why.result listed.0 struck.0 listed.1 struck.1 (sym listed.2 ∙ c.if-not-branch.false)
-    (read_at B (barred ps t.contracts) k false same c.if-bars.ensures) c.why.ensures
+    (read_at B (barred ps t.contracts) k false same (rw c.from.ensures at c.if-bars.ensures)) c.why.ensures

@@ -8,4 +8,4 @@ pub returns : goal.returns
 returns c =
     let B = barred (pairs_of c.args.self.now) c.args.contracts.now in
     kept_without B (length c.args.marks.now) c.args.marks.now c.keep_only.new.marks refl
-    (c.keep_only.ensures (λ k. not (B k)) (λ k b h q. search rules))
+    (c.keep_only.ensures.kept (λ k. not (B k)) (λ k b h q. search rules))

@@ -5,4 +5,4 @@ use Rattle.seats.proofs.choice.SeatsBoard.choose.Goals as goal
 
 pub returns : goal.returns
 returns c =
-    (c.in_ok-rest.ensures.0, c.keep_only.ensures (λ k. not (list_of c.in_ok-rest.rest k)) (λ k b h q. search rules) ∙ ap₂ marked c.in_ok-rest.ensures.0 c.in_ok-rest.ensures.2)
+    (c.in_ok-rest.ensures.0, c.keep_only.ensures.kept (λ k. not (list_of c.in_ok-rest.rest k)) (λ k b h q. search rules) ∙ ap₂ marked c.in_ok-rest.ensures.0 c.in_ok-rest.ensures.2)

@@ -4,11 +4,10 @@ use Rattle.seats.proofs.lineup.Lineup.of.Goals as goal
 
 pub starts-next-requires : goal.starts-next-requires
 starts-next-requires c =
-    rises_from _ _ _ _ _ _ c.contracts.ensures c.deref.ensures.0
-    (lined_holds c.args.rule c.args.rest.now _ _ _ _ c.deck.ensures c.marks.ensures c.unwrap-numbers.ensures c.line_up.ensures)
+    rises_from _ _ _ _ _ _ c.contracts.ensures c.deref.ensures.0 (lined_holds c.args.rule c.args.rest.now _ c.line_up-numbers.ensures)
 
 pub returns : goal.returns
 returns c = record {
-  holds = lined_holds c.args.rule c.args.rest.now _ _ _ _ c.deck.ensures c.marks.ensures c.unwrap-numbers.ensures c.line_up.ensures;
+  holds = lined_holds c.args.rule c.args.rest.now _ c.line_up-numbers.ensures;
   points = points_from _ _ _ _ _ _ c.contracts.ensures c.deref.ensures.0 c.starts-next.ensures;
 }
