@@ -8,15 +8,8 @@ use Rattle.board.specs.Marks.{member, marked}
 use Rattle.board.proofs.Marking.{length_marked, member-within, member-marked}
 
 -- as many marks as there were are all that is there afterwards
-refilled : (n : ℕ) (xs ws : List ℕ) → length ws ≡ n → refill n xs ws ≡ ws
+pub refilled : (n : ℕ) (xs ws : List ℕ) → length ws ≡ n → refill n xs ws ≡ ws
 refilled n xs ws e = grind (arith, common_steps)
-
--- xs are the marks, ds what was lent of them, and ws what came back
-pub all_kept : (n : ℕ) (xs ds ws : List ℕ) (p : Set) → ds ≡ xs → length xs ≡ n → length ws ≡ length ds
-    → ws ≡ marked (length ds) (common (member ds) p) → refill (length xs) xs ws ≡ marked n (common (member xs) p)
-all_kept n xs ds ws p e l m w =
-    refilled (length xs) xs ws (m ∙ ap length e) ∙ w ∙ ap (λ ys. marked (length ys) (common (member ys) p)) e
-    ∙ ap (λ i. marked i (common (member xs) p)) l
 
 -- what a test keeps of marks
 pub kept_common : (p : Set) (n : ℕ) (xs ys : List ℕ) → length xs ≡ n → ys ≡ marked n (common (member xs) p) → member ys ≡ common (member xs) p
@@ -33,7 +26,7 @@ pub copied_without : (B C : Set) (m n : ℕ) (xs ys zs : List ℕ) → length xs
 copied_without B C m n xs ys zs l e s b h =
     (ap length h ∙ length_marked m (common (member xs) (λ k. not (B k))) ∙ e, kept_without B m xs ys l h ∙ ap (λ (us : List ℕ). minus (member us) B) s ∙ ap (λ (D : Set). minus (member zs) D) b)
 
--- the same place by place
+-- xs are the marks, ds what was lent of them, and ws what came back
 pub each_kept : {P : ℕ → Bool → Type 0} (xs ds ws : List ℕ) → ds ≡ xs → length ws ≡ length ds
     → ((k : ℕ) → k < length ds → (b : Bool) × (member ds k ≡ true → P k b) × (get_or ws k 0 ≡ cond (member ds k && b) 1 0))
     → (k : ℕ) → k < length xs → (b : Bool) × (member xs k ≡ true → P k b) × (get_or (refill (length xs) xs ws) k 0 ≡ cond (member xs k && b) 1 0)

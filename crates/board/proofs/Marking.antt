@@ -52,15 +52,6 @@ struck B n xs ys lx ly h = fun_ext at
     at k = ⊎_elim (λ l. ap (λ x. not (eqb x 0)) (h k l) ∙ strike_bit (B k) (get_or xs k 0))
         (λ l. member_past ys k (omega arith) ∙ sym (ap (λ a. a && not (B k)) (member_past xs k (omega arith)))) (cases_lt k n)
 
--- marks that were written from a test T on the places below n
-pub written : (T : Set) (n : ℕ) (ys : List ℕ) → length ys ≡ n → Within n T
-    → ((j : ℕ) → j < n → get_or ys j 0 ≡ cond (T j) 1 0) → member ys ≡ T
-written T n ys ly within h = fun_ext at
-  where
-    at : (k : ℕ) → member ys k ≡ T k
-    at k = ⊎_elim (λ l. ap (λ x. not (eqb x 0)) (h k l) ∙ bit_back (T k))
-        (λ l. member_past ys k (omega arith) ∙ sym (outside T k (λ z. let m = within k z in omega arith))) (cases_lt k n)
-
 -- 0 and 1 at each place make the marks of a list
 pub marked_from : (T : Set) (n : ℕ) (ys : List ℕ) → length ys ≡ n → ((j : ℕ) → j < n → get_or ys j 0 ≡ cond (T j) 1 0) → ys ≡ marked n T
 marked_from T n ys l h = fill_by_all (λ j. cond (T j) 1 0) ys n 0 l h

@@ -63,7 +63,7 @@ impl Book {
         )
     }
 
-    // The tables, for reading: those of a book of its own, as tables of other kinds have theirs.
+    // The tables, for reading.
     pub fn tables(&self) -> Tables<'_>
         ensures { content_of result ≡ content_of_book self.now }
     {

@@ -22,7 +22,7 @@ use rules::table::Tables;
 // The most bytes that a deck has: the most records of each kind, and E.
 pub const LONGEST: usize = 15363;
 
-// The entry of the next record, where it may stand here and keeps the rules, and the section after it. The bounds are asked for the reason that stands at the entries.
+// The entry of the next record, where it may stand here and keeps the rules, and the section after it. `place` and `few` are asked as where entries are made.
 fn next_entry(
     reader: &mut Reader,
     section: Section,

@@ -1,21 +1,17 @@
 -- A change of order under a map.
-use Rattle.std.proofs.Common.{◌≡◌, ℕ, zero, suc, List, [], ◌∷◌, map, get_or, set, sym, refl, ap, ◌∙◌, subst}
+use Rattle.std.proofs.Common.{◌≡◌, ℕ, List, [], ◌∷◌, map, get_or, set, sym, refl, ap, ◌∙◌, subst}
+use Rattle.std.proofs.Math.ListN.{get_or-map}
 use Rattle.std.proofs.lemmas.List.{length-map, map-set}
 use Rattle.std.specs.List.Sorted.{IsPermutation, apply_swaps, SwapsInRange}
 use Rattle.std.specs.List.{swap}
 
 module _ {X Y : Type 0} (f : X → Y) where
-  get_or_mapped : (xs : List X) (i : ℕ) (d : X) → get_or (map f xs) i (f d) ≡ f (get_or xs i d)
-  get_or_mapped [] i d = refl
-  get_or_mapped (x ∷ xs) zero d = refl
-  get_or_mapped (x ∷ xs) (suc i) d = get_or_mapped xs i d
-
   map_exchanged : (xs : List X) (i j : ℕ) → map f (swap xs i j) ≡ swap (map f xs) i j
   map_exchanged [] i j = refl
   map_exchanged (d ∷ xs) i j =
       map-set f (set (d ∷ xs) i (get_or (d ∷ xs) j d)) j (get_or (d ∷ xs) i d)
       ∙ ap (λ z. set z j (f (get_or (d ∷ xs) i d))) (map-set f (d ∷ xs) i (get_or (d ∷ xs) j d))
-      ∙ (λ t. set (set (map f (d ∷ xs)) i (sym (get_or_mapped (d ∷ xs) j d) t)) j (sym (get_or_mapped (d ∷ xs) i d) t))
+      ∙ (λ t. set (set (map f (d ∷ xs)) i (sym (get_or-map f (d ∷ xs) j d) t)) j (sym (get_or-map f (d ∷ xs) i d) t))
 
   map_moved : (xs : List X) (ps : List (ℕ × ℕ)) → map f (apply_swaps xs ps) ≡ apply_swaps (map f xs) ps
   map_moved xs [] = refl
