@@ -26,10 +26,9 @@ impl<'a> Marked<'a> {
         ensures { Copied deck.now marks.now result }
     {
         fit(deck, marks)?;
-        Ok(Marked {
-            deck,
-            marks: ArrayVec::try_from(marks).unwrap(),
-        })
+        let mut own = ArrayVec::new();
+        own.try_extend_from_slice(marks).unwrap();
+        Ok(Marked { deck, marks: own })
     }
 
     pub fn deck(&self) -> &'a Deck<'a>

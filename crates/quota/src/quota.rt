@@ -17,7 +17,7 @@ use board::marked::Marked;
 use board::marks::{is_listed, keep_only};
 use board::unfit::Unfit;
 use deck::deck::Deck;
-use ranking::row::line_up;
+use ranking::row::row_by;
 use rules::table::Contract;
 
 // The laws take a board as a value, of which only its fields' lists are known: that its rows are 64 is therefore an invariant.
@@ -100,7 +100,7 @@ impl Quota {
         ensures { Found self.now.rows (data_of deck.now).contracts marks.now result }
     {
         let list = Marked::of(deck, marks)?;
-        let row = line_up(&list, rules::table::Rule::Rank);
+        let row = row_by(&list, rules::table::Rule::Rank);
         Ok(self.walk(deck, &row))
     }
 }

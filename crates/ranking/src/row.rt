@@ -1,12 +1,16 @@
 // The contracts of a list in a row.
 ghost use Rattle.std.specs.Prelude.{◌≡◌, ◌≤◌, length};
 ghost use Rattle.board.specs.Marked.{contracts_of, list_of};
+ghost use Rattle.deck.specs.Contents.{data_of};
 ghost use Rattle.ranking.specs.Keys.{Placed, numbers};
-ghost use Rattle.ranking.specs.Rows.{InRow};
+ghost use Rattle.ranking.specs.Rank.{rule_or_rank};
+ghost use Rattle.ranking.specs.Rows.{InRow, Lined};
 
 use crate::key::{Key, key_of};
 use arrayvec::ArrayVec;
 use board::marked::Marked;
+use board::unfit::Unfit;
+use deck::deck::Deck;
 use rules::table::Rule;
 
 fn numbers(keys: &[Key]) -> ArrayVec<u16, 2048>
@@ -21,20 +25,21 @@ fn numbers(keys: &[Key]) -> ArrayVec<u16, 2048>
     row
 }
 
-// Sorts the keys, and takes their numbers.
-fn place(mut keys: ArrayVec<Key, 2048>) -> ArrayVec<u16, 2048>
-    ensures placed { Placed keys.items result.items }
+// Sorts the keys where they lie, and takes their numbers.
+fn place(keys: &mut [Key]) -> ArrayVec<u16, 2048>
+    requires { length keys.old ≤ 2048 }
+    ensures placed { Placed keys.old result.items }
     ensures few { length result.items ≤ 2048 }
 {
     keys.sort_unstable();
-    numbers(&keys)
+    numbers(keys)
 }
 
 // The contracts of a list in a row: one dredger after the other, and within each by the rule.
-pub fn line_up(list: &Marked, rule: Rule) -> ArrayVec<u16, 2048>
+pub fn row_by(list: &Marked, rule: Rule) -> ArrayVec<u16, 2048>
     ensures { InRow rule (contracts_of list.now) (list_of list.now) result.items }
 {
-    let mut keys = ArrayVec::new();
+    let mut keys = ArrayVec::<Key, 2048>::new();
     // As in `numbers`, a loop pushes.
     for (k, contract) in list.contracts().iter().enumerate() {
         let number = k as u16;
@@ -42,5 +47,16 @@ pub fn line_up(list: &Marked, rule: Rule) -> ArrayVec<u16, 2048>
             keys.push(key_of(rule, contract, number));
         }
     }
-    place(keys)
+    place(&mut keys)
+}
+
+// Writes the row of the marked contracts at the front of `row`, and tells how many they are. A rule comes by its number, as a deck gives it; any other number means by rank.
+pub fn line_up(deck: &Deck, marks: &[u8], rule: u8, row: &mut [u16; 2048]) -> Result<usize, Unfit>
+    ensures { Lined (rule_or_rank rule) (data_of deck.now).contracts marks.now row.old row.new result }
+{
+    let list = Marked::of(deck, marks)?;
+    let numbers = row_by(&list, Rule::try_from(rule).unwrap_or_default());
+    let count = numbers.len();
+    row[..count].copy_from_slice(&numbers);
+    Ok(count)
 }

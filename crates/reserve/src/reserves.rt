@@ -7,7 +7,7 @@ ghost use Rattle.rules.specs.Contents.{reserve_at};
 use board::marked::Marked;
 use board::unfit::Unfit;
 use deck::deck::Deck;
-use ranking::row::line_up;
+use ranking::row::row_by;
 use rules::table::{Contract, Reservation, Rule};
 
 // A place for each dredger that a deck may have. Entries hold plain numbers, and that a dredger's is below 64 is known of a deck's alone.
@@ -111,7 +111,7 @@ impl Reserves {
         let contracts = deck.contracts();
         let mut taken = Marked::of(deck, marks)?;
         taken.keep(|k| self.entitles(&contracts[k]));
-        let row = line_up(&taken, Rule::Rank);
+        let row = row_by(&taken, Rule::Rank);
         self.cut(&row, &mut taken);
         Ok(taken)
     }

@@ -4,7 +4,7 @@ ghost use Rattle.seats.specs.Rows.{Points, Rises};
 
 use arrayvec::ArrayVec;
 use board::marked::Marked;
-use ranking::row::line_up;
+use ranking::row::row_by;
 use rules::table::{Contract, Rule, Seat};
 
 // The numbers stand one dredger after the other, and within each by the rule. `next` has the place of each dredger's first contract that may be left.
@@ -37,7 +37,7 @@ impl Lineup {
     pub(crate) fn of(rest: &Marked, rule: Rule) -> Lineup
         ensures { Ready rule rest.now result }
     {
-        let numbers = line_up(rest, rule);
+        let numbers = row_by(rest, rule);
         let next = starts(rest.contracts(), &numbers);
         Lineup { numbers, next }
     }
