@@ -1,2 +1,3 @@
 pub mod Chain
 pub mod Outcomes
+pub mod Wishes

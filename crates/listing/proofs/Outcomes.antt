@@ -19,8 +19,11 @@ dealt_text all bytes out blank done c t x f e g b w o =
     is_dealt h.0 h.1
     (o ∙ w.is ∙ ap (λ (l : List ℕ). l ++ text_of_deck bytes x) b ∙ ap (λ (l : List ℕ). text_of_deck l x) e ∙ ap (λ (y : Content). text_of_deck all y) (g ∙ holds-firsts _ _ _ h.2))
 
--- what a refusal prints is the outcome of its bytes, where it is due
+-- what a refusal prints is its line
+pub refused_line : (out blank done : List ℕ) (x y : Refusal) → y ≡ x → blank ≡ [] → Grew blank done (line_of_refusal y) → out ≡ done → out ≡ line_of_refusal x
+refused_line out blank done x y e b w o = o ∙ w.is ∙ ap (λ (l : List ℕ). l ++ line_of_refusal y) b ∙ ap line_of_refusal e
+
+-- and so the outcome of its bytes, where it is due
 pub refused_text : (all out blank done : List ℕ) (x y : Refusal) → Due all x → y ≡ x → blank ≡ [] → Grew blank done (line_of_refusal y) → out ≡ done
     → Outcome all out
-refused_text all out blank done x y d e b w o =
-    is_refused x d (o ∙ w.is ∙ ap (λ (l : List ℕ). l ++ line_of_refusal y) b ∙ ap line_of_refusal e)
+refused_text all out blank done x y d e b w o = is_refused x d (refused_line out blank done x y e b w o)

@@ -3,7 +3,7 @@ ghost use Rattle.deck.specs.Alike.{Fits};
 ghost use Rattle.deck.specs.Contents.{bytes_of, data_of};
 ghost use Rattle.intake.specs.Book.{Due};
 ghost use Rattle.intake.specs.Refusals.{refusal};
-ghost use Rattle.listing.specs.Lines.{counts_of, text_of_deck, lines_of_trainees, wishes};
+ghost use Rattle.listing.specs.Lines.{counts_of, line_of_refusal, text_of_deck, lines_of_trainees, wishes};
 ghost use Rattle.listing.specs.Outcomes.{Outcome};
 ghost use Rattle.listing.specs.Print.{Writes};
 ghost use Rattle.rules.specs.Contents.{content_of};
@@ -17,14 +17,18 @@ use intake::fault::DeckFault;
 use rules::table::{Contract, Tables};
 use std::alloc::{AllocError, Global};
 
-// How many contracts are of this trainee.
+// How many contracts are of this trainee. `filter(..).count()` would say the same, and takes twice as long.
+#[tactic(auto, using(crate::proofs::Wishes::wish_more, crate::proofs::Wishes::wish_other, crate::proofs::Wishes::wish_all))]
 fn wish_count(contracts: &[Contract], trainee: usize) -> usize
     ensures { result ≡ wishes trainee contracts.now }
 {
-    contracts
-        .iter()
-        .filter(|c| usize::from(c.trainee) == trainee)
-        .count()
+    let mut n = 0;
+    for c in contracts {
+        if usize::from(c.trainee) == trainee {
+            n += 1;
+        }
+    }
+    n
 }
 
 // How many entries each table of a deck has.
@@ -63,7 +67,8 @@ fn deck_text(printer: &mut Printer, deck: &Deck) -> Result<(), AllocError>
 
 // The line of a refusal, which is printed of all bytes at which it is due.
 fn refused(heap: Global, fault: DeckFault) -> Result<Vec<u8>, AllocError>
-    ensures { (all : List ℕ) → Due all (refusal fault) → IfOk result (λ v. Outcome all v.items) }
+    ensures line { IfOk result (λ v. v.items ≡ line_of_refusal (refusal fault)) }
+    ensures outcome { (all : List ℕ) → Due all (refusal fault) → IfOk result (λ v. Outcome all v.items) }
 {
     let mut printer = Printer::new(heap);
     printer.refusal_line(fault.into())?;

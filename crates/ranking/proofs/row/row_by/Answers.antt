@@ -1,8 +1,0 @@
-use Rattle.std.proofs.Common.{length, ap, arith}
-use Rattle.ranking.proofs.Keying.{placed_row}
-use Rattle.ranking.proofs.row.row_by.Goals as goal
-
-pub returns : goal.returns
-returns c =
-    placed_row _ _ c.loop-k.k _ _ _ c.place.ensures.few (omega (arith, ap length c.contracts-contract-items.ensures)) c.loop-k.invariant.1
-    (rw c.deref_mut.ensures.value at c.place.ensures.placed)
