@@ -31,7 +31,7 @@ module _ (rows : List Row) (ea : Earlier rows) (S T o : ℕ → ℕ) (v : ℕ) (
       (λ c i ne. ap (λ x. cond (is_parent (parent_of rows c) w) x 0) (off c ne))
 
   kids_other : (w : ℕ) → (parent_of rows v ≡ Some w → ⊥) → kids (parent_of rows) T w ≡ kids (parent_of rows) S w
-  kids_other w e = kids_same (parent_of rows) ea T S w (λ c p i j. off c (λ q. e (ap (λ k. parent_of rows k) (sym q) ∙ p)))
+  kids_other w e = kids_same (parent_of rows) (λ v p l. ea v p) T S w (λ c p i j. off c (λ q. e (ap (λ k. parent_of rows k) (sym q) ∙ p)))
 
   module _ (p : Pending rows S o v) (room : S v < cap_of rows v) where
     right : (w : ℕ) → w < 64 → (parent_of rows v ≡ Some w → ⊥) → T w ≡ min (cap_of rows w) (kids (parent_of rows) T w + o w)
@@ -73,7 +73,7 @@ module _ {rows : List Row} {from s : Sums} {g v : ℕ} (ea : Earlier rows) (c : 
 
   climbing_full : cap_of rows v ≤ sum_of s v → Climbed rows from g s (Some v)
   climbing_full h = record {
-    answer = sym (c.answer ∙ stop_full (parent_of rows) (below_cap rows from) ea v (le-ltb _ _ (let e = tested in omega arith)));
+    answer = sym (c.answer ∙ stop_full (parent_of rows) (below_cap rows from) v (le-ltb _ _ (let e = tested in omega arith)));
     dredger = c.dredger;
     counted = λ own f. pending_full rows (sum_of s) (one_more own g) v c.within (c.counted own f) h;
   }
@@ -90,7 +90,7 @@ module _ {rows : List Row} {from s : Sums} {g v : ℕ} (ea : Earlier rows) (c : 
 
     climbing-top : parent_of rows v ≡ None → Climbed rows from g (with_one s v) None
     climbing-top p = record {
-      answer = sym (c.answer ∙ stop_top (parent_of rows) (below_cap rows from) ea v open-now p);
+      answer = sym (c.answer ∙ stop_top (parent_of rows) (below_cap rows from) v open-now p);
       dredger = c.dredger;
       counted = λ own f. pending-top rows ea (sum_of s) (sum_of (with_one s v)) (one_more own g) v c.within at off (c.counted own f) h p;
     }
@@ -103,7 +103,7 @@ module _ {rows : List Row} {from s : Sums} {g v : ℕ} (ea : Earlier rows) (c : 
           within = k;
           long = length-set s.counts v (sum_of s v + 1) ∙ c.long;
           dredger = c.dredger;
-          answer = c.answer ∙ stop_up (parent_of rows) (below_cap rows from) ea v p c.within open-now e;
+          answer = c.answer ∙ stop_up (parent_of rows) (below_cap rows from) (λ v p l. ea v p) v p c.within open-now e;
           still = λ w i. off w (λ e. omega arith) ∙ c.still w (omega arith);
           counted = λ own f. pending-up rows ea (sum_of s) (sum_of (with_one s v)) (one_more own g) v c.within at off (c.counted own f) h p e k;
         }

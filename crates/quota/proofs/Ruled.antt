@@ -16,11 +16,11 @@ module _ (rows : List Row) (ea : Earlier rows) (len : length rows ≡ 64) (cs : 
 
   pub ruled : Rule rows cs
   ruled = record {
-    filled = λ X k v l. filled_is rows ea (directly cs X k) v l;
+    filled = λ X k v l. filled_is rows (λ v p l. ea v p) (directly cs X k) v l;
     kept = λ X k e.
         let p = and_parts _ _ e in
-        (p.0, λ v u. ltb-true _ _ (upwards_all (parent_of rows) (has_place rows cs X k) ea (closed X k) (contract_at cs k).group p.1 v u));
-    keeps = λ X k x h. and_from _ _ x (upwards_from (parent_of rows) (has_place rows cs X k) ea (contract_at cs k).group (λ w u. lt-ltb _ _ (h w u)));
+        (p.0, λ v u. ltb-true _ _ (upwards_all (parent_of rows) (has_place rows cs X k) (λ v p l. ea v p) (contract_at cs k).group (closed X k (contract_at cs k).group) p.1 v u));
+    keeps = λ X k x h. and_from _ _ x (upwards_from (parent_of rows) (has_place rows cs X k) 64 (contract_at cs k).group (λ w u. lt-ltb _ _ (h w u)));
     stopped = λ X k x e.
         let f = upwards_fails (parent_of rows) (has_place rows cs X k) ea (contract_at cs k).group
         (⊎_elim (λ n. absurd (both_ways _ n x)) (λ n. n) (and_cases _ _ e)) in

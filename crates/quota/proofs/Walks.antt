@@ -33,8 +33,8 @@ filled_once rows ea S o f = down (λ v. S v ≡ filled rows o 64 v) step
     step : (v : ℕ) → v < 64 → ((c : ℕ) → v < c → c < 64 → S c ≡ filled rows o 64 c) → S v ≡ filled rows o 64 v
     step v l ih =
         let a = f v l in
-        let b = filled_is rows ea o v l in
-        let c : kids (parent_of rows) S v ≡ kids (parent_of rows) (λ j. filled rows o 64 j) v = kids_same (parent_of rows) ea S (λ j. filled rows o 64 j) v (λ j p. ih j) in
+        let b = filled_is rows (λ v p l. ea v p) o v l in
+        let c : kids (parent_of rows) S v ≡ kids (parent_of rows) (λ j. filled rows o 64 j) v = kids_same (parent_of rows) (λ v p l. ea v p) S (λ j. filled rows o 64 j) v (λ j p. ih j) in
         omega arith
 
 filled_by : (rows : List Row) (S o p : ℕ → ℕ) → ((v : ℕ) → v < 64 → o v ≡ p v) → Filled rows S o → Filled rows S p

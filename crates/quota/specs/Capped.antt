@@ -13,7 +13,7 @@ use Rattle.matching.proofs.Thinning.{one_removed}
 use Rattle.quota.specs.Caps.{kids, upwards}
 use Rattle.quota.specs.Rule.{Up, here, there}
 use Rattle.quota.specs.Sums.{kids_le, kids_same}
-use Rattle.quota.specs.Tree.{up_trans, down, upwards_all, upwards_from, upwards_fails}
+use Rattle.quota.specs.Tree.{up_trans, down, upwards_all, upwards_from, some_fails}
 
 -- caps on a tree, and an order of the n contracts
 pub record Caps : Type 0 where
@@ -22,7 +22,7 @@ pub record Caps : Type 0 where
   pub cap : ℕ → ℕ
   pub grp : ℕ → ℕ
   pub ord : ℕ → ℕ → Bool
-  pub earlier : (v p : ℕ) → par v ≡ Some p → p < v
+  pub earlier : (v p : ℕ) → v < 64 → par v ≡ Some p → p < v
   pub none : (v : ℕ) → 64 ≤ v → cap v ≡ 0
   pub irrefl : (j : ℕ) → ord j j ≡ false
   pub trans : (i j k : ℕ) → ord i j ≡ true → ord j k ≡ true → ord i k ≡ true
@@ -80,11 +80,11 @@ module _ (T : Caps) (G : ℕ → Set → ℕ → ℕ) (eqn : Fills T G) where
   real X k v e = ⊎_elim (λ i. i) (λ i. absurd (both_ways _ (closed X k v i) e)) (cases_lt v 64)
 
   pass_all : (X : Set) (k : ℕ) → upwards T.par (ok X k) (T.grp k) ≡ true → (w : ℕ) → Up T.par (T.grp k) w → ok X k w ≡ true
-  pass_all X k = upwards_all T.par (ok X k) T.earlier (λ v. closed X k v) (T.grp k)
+  pass_all X k = upwards_all T.par (ok X k) T.earlier (T.grp k) (closed X k (T.grp k))
 
   pass_by : (X Y : Set) (k : ℕ) → ((w : ℕ) → Up T.par (T.grp k) w → ok Y k w ≡ true → ok X k w ≡ true)
       → upwards T.par (ok Y k) (T.grp k) ≡ true → upwards T.par (ok X k) (T.grp k) ≡ true
-  pass_by X Y k h e = upwards_from T.par (ok X k) T.earlier (T.grp k) (λ w u. h w u (pass_all Y k e w u))
+  pass_by X Y k h e = upwards_from T.par (ok X k) 64 (T.grp k) (λ w u. h w u (pass_all Y k e w u))
 
   pass_le : (X Y : Set) (k : ℕ) → Less X k Y k → upwards T.par (ok Y k) (T.grp k) ≡ true → upwards T.par (ok X k) (T.grp k) ≡ true
   pass_le X Y k h = pass_by X Y k (λ w u. open_le X Y k k h w)
@@ -174,7 +174,7 @@ module _ (T : Caps) (G : ℕ → Set → ℕ → ℕ) (eqn : Fills T G) where
     apart k f j o q = both_ways _ f (let P : ℕ → Type 0 = λ i. T.ord i k ≡ true in subst P q o)
 
     back : (k : ℕ) → upwards T.par (ok (less X z) k) (T.grp k) ≡ true → upwards T.par (ok X k) (T.grp k) ≡ true
-    back k = ⊎_elim (λ zk. let f = upwards_fails T.par (ok X z) T.earlier (T.grp z) shut in let d = f.2 in below X z f.0 d.up d.fails k zk)
+    back k = ⊎_elim (λ zk. let f = some_fails T.par (ok X z) 64 (T.grp z) shut in below X z f.0 f.2 f.3 k zk)
         (λ zk. pass_le X (less X z) k (λ j i a o. (less_other X z j (apart k zk j o) ∙ a, o))) (cases_Bool (T.ord z k))
 
     removed-at : (k : ℕ) → chosen T G (less X z) k ≡ chosen T G X k

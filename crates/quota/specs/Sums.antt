@@ -34,12 +34,16 @@ cond_same : (b : Bool) (x y : ℕ) → (b ≡ true → x ≡ y) → cond b x 0 �
 cond_same true x y h = h refl
 cond_same false x y h = refl
 
--- only the groups whose parent is v count, and a parent is an earlier group
-module _ (par : ℕ → Option ℕ) (ea : (v p : ℕ) → par v ≡ Some p → p < v) (f g : ℕ → ℕ) (v : ℕ) where
-  pub kids_le : ((c : ℕ) → v < c → c < 64 → f c ≤ g c) → kids par f v ≤ kids par g v
-  kids_le h = across_le (λ c. cond (is_parent (par c) v) (f c) 0) (λ c. cond (is_parent (par c) v) (g c) 0)
-      (λ c l. cond_le (is_parent (par c) v) (f c) (g c) (λ e. h c (ea c v (is_parent-true (par c) v e)) l))
+-- only the groups whose parent is v count, and the parent of one of the 64 groups is an earlier group
+module _ (par : ℕ → Option ℕ) (ea : (v p : ℕ) → v < 64 → par v ≡ Some p → p < v) where
+  pub child : (c v : ℕ) → c < 64 → is_parent (par c) v ≡ true → v < c
+  child c v l e = ea c v l (is_parent-true (par c) v e)
 
-  pub kids_same : ((c : ℕ) → par c ≡ Some v → v < c → c < 64 → f c ≡ g c) → kids par f v ≡ kids par g v
-  kids_same h = across_same (λ c. cond (is_parent (par c) v) (f c) 0) (λ c. cond (is_parent (par c) v) (g c) 0)
-      (λ c l. cond_same (is_parent (par c) v) (f c) (g c) (λ e. let p = is_parent-true (par c) v e in h c p (ea c v p) l))
+  module _ (f g : ℕ → ℕ) (v : ℕ) where
+    pub kids_le : ((c : ℕ) → v < c → c < 64 → f c ≤ g c) → kids par f v ≤ kids par g v
+    kids_le h = across_le (λ c. cond (is_parent (par c) v) (f c) 0) (λ c. cond (is_parent (par c) v) (g c) 0)
+        (λ c l. cond_le (is_parent (par c) v) (f c) (g c) (λ e. h c (child c v l e) l))
+
+    pub kids_same : ((c : ℕ) → par c ≡ Some v → v < c → c < 64 → f c ≡ g c) → kids par f v ≡ kids par g v
+    kids_same h = across_same (λ c. cond (is_parent (par c) v) (f c) 0) (λ c. cond (is_parent (par c) v) (g c) 0)
+        (λ c l. cond_same (is_parent (par c) v) (f c) (g c) (λ e. h c (is_parent-true (par c) v e) (child c v l e) l))

@@ -14,10 +14,11 @@ use Rattle.rules.specs.Contents.{contract_at}
 use Rattle.moves.specs.Bags.{passing}
 use Rattle.moves.proofs.Bags.{total_same}
 use Rattle.matching.specs.Sets.{Set, rising}
+use Rattle.matching.proofs.Sets.{and_true}
 use Rattle.ranking.specs.Rank.{together, prefers, above}
 use Rattle.ranking.specs.Rows.{precedes, Ordered}
 use Rattle.ranking.proofs.Orderings.{prefers_irrefl, prefers_trans}
-use Rattle.ranking.proofs.Risings.{rising_sum}
+use Rattle.ranking.proofs.Risings.{rising_sum, shuffled_apart}
 
 -- ---- the numbers in rising order
 
@@ -54,6 +55,10 @@ count_by_none p [] h = refl
 count_by_none p (x ∷ xs) h =
     sum_by-cons (λ y. cond (p y) 1 0) x xs ∙ (λ i. cond (h.0 i) 1 0 + count_by_none p xs h.1 i)
 
+count_all : (xs : List ℕ) → count_by (λ _. true) xs ≡ length xs
+count_all [] = refl
+count_all (x ∷ xs) = omega (arith, sum_by-cons (λ (y : ℕ). 1) x xs, count_all xs)
+
 add_zero : (n : ℕ) → n + 0 ≡ n
 add_zero n = omega arith
 
@@ -61,6 +66,9 @@ nested : (a b : Bool) → ◌≡◌ {A = ℕ} (cond a (cond b 1 0) 0) (cond (a &
 nested a b = grind arith
 
 -- ---- who comes before whom
+
+pub precedes_itself : (rule : Rule) (cs : List Contract) (k : ℕ) → precedes rule cs k k ≡ false
+precedes_itself rule cs k = let h = prefers_irrefl rule (contract_at cs k) k in grind (arith, nat_tests)
 
 -- within one dredger it is the rule that says who comes first
 pub precedes_by_rule : (rule : Rule) (cs : List Contract) (i j : ℕ) → precedes rule cs i j ≡ true → together cs i j ≡ true
@@ -70,7 +78,7 @@ precedes_by_rule rule cs i j h t = grind (arith, nat_tests)
 pub precedes_dredgers : (rule : Rule) (cs : List Contract) (i j : ℕ) → precedes rule cs i j ≡ true → (contract_at cs i).dredger ≤ (contract_at cs j).dredger
 precedes_dredgers rule cs i j h = grind (arith, nat_tests)
 
-together_back : (cs : List Contract) (i j : ℕ) → together cs i j ≡ true → together cs j i ≡ true
+pub together_back : (cs : List Contract) (i j : ℕ) → together cs i j ≡ true → together cs j i ≡ true
 together_back cs i j h = eq-eqb _ _ (sym (eqb-true _ _ h))
 
 -- whoever precedes k and is of its dredger goes ahead of it, and no one else
@@ -104,20 +112,28 @@ module _ {rule : Rule} {cs : List Contract} {X : Set} {ns : List ℕ} (o : Order
       let h = has_shuffled (rising (length cs) X) ns k o.same (rising_has (length cs) X k l x) in
       (h.0, h.1, h.2 0)
 
+  pub lined_apart : (i j : ℕ) → i < j → j < length ns → get_or ns i 0 ≡ get_or ns j 0 → ⊥
+  lined_apart = shuffled_apart (length cs) X ns o.same
+
   pub lined_dredgers : (i j : ℕ) → i ≤ j → j < length ns → (contract_at cs (get_or ns i 0)).dredger ≤ (contract_at cs (get_or ns j 0)).dredger
   lined_dredgers i j l m = ⊎_elim
       (λ (e : i ≡ j). subst (λ n. (contract_at cs (get_or ns i 0)).dredger ≤ (contract_at cs (get_or ns n 0)).dredger) e (omega arith))
       (λ (ne : i ≡ j → ⊥). precedes_dredgers rule cs (get_or ns i 0) (get_or ns j 0) (o.sorted i j (omega arith) m))
       (cases_eq i j)
 
-  lined_count : (p : ℕ → Bool) → passing (length cs) (λ j. X j && p j) ≡ count_by p ns
+  pub lined_count : (p : ℕ → Bool) → passing (length cs) (λ j. X j && p j) ≡ count_by p ns
   lined_count p =
       total_same (length cs) (λ j. cond (X j && p j) 1 0) (λ j. cond (X j) (cond (p j) 1 0) 0) (λ j l. sym (nested (X j) (p j)))
       ∙ sym (rising_sum (λ j. cond (p j) 1 0) (length cs) X)
       ∙ sym (sum_by-IsPermutation (λ j. cond (p j) 1 0) (rising (length cs) X) ns o.same)
 
+  pub lined_length : passing (length cs) X ≡ length ns
+  lined_length =
+      total_same (length cs) (λ j. cond (X j) 1 0) (λ j. cond (X j && true) 1 0) (λ j l. ap (λ b. cond b 1 0) (sym (and_true (X j))))
+      ∙ lined_count (λ _. true) ∙ count_all ns
+
   -- as many of X go ahead of the contract at a place, and pass a test, as stand before that place, are of its dredger and pass the test
-  lined_before : (i : ℕ) (q : ℕ → Bool) → i < length ns
+  pub lined_before : (i : ℕ) (q : ℕ → Bool) → i < length ns
       → passing (length cs) (λ j. X j && (q j && (together cs j (get_or ns i 0) && prefers rule (contract_at cs j) (contract_at cs (get_or ns i 0)) j (get_or ns i 0))))
       ≡ count_by (λ j. q j && together cs j (get_or ns i 0)) (take i ns)
   lined_before i q l =
