@@ -14,6 +14,7 @@ use Rattle.matching.specs.Choices.{Lawful, ahead, first}
 use Rattle.matching.proofs.Sets.{same_bool, or_false, and_true}
 use Rattle.matching.proofs.Sums.{passing_same}
 use Rattle.matching.proofs.Firsts.{first-lawful}
+use Rattle.board.specs.Marks.{member}
 use Rattle.ranking.specs.Rank.{above, together}
 use Rattle.ranking.specs.Rows.{Ordered}
 use Rattle.ranking.proofs.Orderings.{above_irrefl, above_trans}
@@ -82,6 +83,13 @@ left_end : (e r t : Bool) → t ≡ (e && not (e && not r)) → t ≡ (e && (tru
 left_end true true t h = h
 left_end true false t h = h
 left_end false r t h = h
+
+byte_at : (a b out : Bool) (x y : ℕ) → (a ≡ true → x ≡ 0) → (b ≡ true → y ≡ 0) → not a ≡ (not b && not out) → (not a ≡ true → x ≡ y) → x ≡ cond out 0 y
+byte_at true b true x y p q h e = p refl
+byte_at true true false x y p q h e = p refl ∙ sym (q refl)
+byte_at true false false x y p q h e = absurd (both_ways false refl h)
+byte_at false b true x y p q h e = absurd (both_ways _ (and_right (not b) false refl) (sym h))
+byte_at false b false x y p q h e = e refl
 
 left_at : (r : Bool) (X : Set) (x k : ℕ) → left r X x k ≡ cond r (X k) (X k && not (k == x))
 left_at true X x k = refl
@@ -166,6 +174,14 @@ module _ (places : List ℕ) (cs : List Contract) (E : Set) (ns : List ℕ) (o :
   cut_all seen T i l w h = fun_ext λ k.
       left_end (E k) (room k) (T k)
       (h.left_is k ∙ ap (λ b. E k && not (b && not (room k))) (ap (λ xs. among xs k) (take_all i ns l) ∙ among_is w k))
+
+  -- in marks whose bytes stay while their contract is left, those of the contracts seen that find no place become 0
+  pub taken_is : (entry seen taken : List ℕ) (i : ℕ) → member entry ≡ E → Cut places cs E ns seen (member taken) i
+      → ((k : ℕ) → member taken k ≡ true → slice_index taken k ≡ slice_index entry k)
+      → (k : ℕ) → slice_index taken k ≡ cond (among (take i ns) k && not (room k)) 0 (slice_index entry k)
+  taken_is entry seen taken i m h stays k =
+      byte_at (slice_index taken k == 0) (slice_index entry k == 0) (among (take i ns) k && not (room k)) _ _ (eqb-true _ 0) (eqb-true _ 0)
+      (h.left_is k ∙ ap (λ (X : Set). X k && not (among (take i ns) k && not (room k))) (sym m)) (stays k)
 
 -- among those who may, the first are those of the reserve part
 pub reserve_part : (places : List ℕ) (cs : List Contract) (X : Set)
