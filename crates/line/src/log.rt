@@ -1,6 +1,7 @@
 // The log: a strip of contracts that were turned down.
 ghost use Rattle.line.specs.Logs.{noted};
 ghost use Rattle.strip.specs.Calls.{Put};
+ghost use Rattle.strip.specs.Rows.{as_row};
 
 use strip::row::{Full, Strip};
 
@@ -13,7 +14,7 @@ pub struct TurnedDown {
 
 // One more entry at the new end of the log.
 pub fn note<'a>(log: &mut Strip<'a, TurnedDown>, contract: u16, offers: u16) -> Result<(), Full>
-    ensures { Put log.old (noted contract offers) result log.new }
+    ensures { Put (as_row log.old) (noted contract offers) result (as_row log.new) }
 {
     log.put(TurnedDown { contract, offers })
 }

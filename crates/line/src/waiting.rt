@@ -2,7 +2,8 @@
 #![tactic(auto, using(crate::proofs::Ends::joins_end))]
 
 ghost use Rattle.line.specs.Calls.{Taken, at_end};
-ghost use Rattle.std.specs.Prelude.{◌≡◌, ℕ, List};
+ghost use Rattle.std.specs.Prelude.{◌≡◌, ℕ, ◌+◌, List, length};
+ghost use Rattle.strip.specs.Rows.{as_row};
 
 use crate::line::Line;
 use std::marker::PhantomData;
@@ -13,7 +14,7 @@ pub trait End {
     ghost takes: { List ℕ → ℕ → List ℕ → Type 0 };
 
     fn take<'a>(row: &mut Strip<'a, u16>) -> Option<u16>
-        ensures { Taken takes row.old result row.new };
+        ensures { Taken takes (as_row row.old) result (as_row row.new) };
 }
 
 // It has its strip on loan: who lent it goes on with it when the line is let go.
@@ -35,8 +36,17 @@ impl<'a, 'b, E> Waiting<'a, 'b, E> {
     }
 }
 
+impl<'a, 'b, E: End> Waiting<'a, 'b, E> {
+    // How many places are free: those who wait never outnumber the places.
+    pub fn free(&self) -> usize
+        ensures { result + length self.now.row.now.items ≡ (as_row self.now.row.now).places }
+    {
+        self.places() - self.count()
+    }
+}
+
 impl<'a, 'b, E: End> Line for Waiting<'a, 'b, E> {
-    ghost waiting = { λ s. s.row.now };
+    ghost waiting = { λ s. as_row s.row.now };
 
     ghost joins = { at_end };
 

@@ -1,8 +1,8 @@
 use Rattle.std.proofs.Common.{◌≡◌, ℕ, zero, suc, ◌+◌, ◌-◌, ◌<◌, ◌≤◌, ◌≢◌, List, [], ◌∷◌, ◌++◌, length, get_or, take, drop, set, sym, refl, ap, ◌∙◌, inl, inr, ⊎_elim, arith, length-append, length-drop, length-set, length-take}
 use Rattle.std.proofs.lemmas.List.{same_lists, get_or_append_left, get_or-append_right, get_or-take, get_or-drop, get_or-set_same, get_or-set_other, get_or_push, get_or_default, length_push, take_more}
 use Rattle.std.proofs.lemmas.Bool.{cases_eq, cases_lt}
-use Rattle.strip.specs.Ring.{ringed, Ringed, Spot, row_of}
-use Rattle.strip.specs.Rows.{holding}
+use Rattle.strip.specs.Ring.{ringed, Ringed, Spot, held_of, row_of}
+use Rattle.strip.specs.Rows.{as_row, holding}
 
 pub spot_of : (n h k : ℕ) → h ≤ n → k < n → (at : ℕ) × Spot n h k at
 spot_of n h k p q = ⊎_elim
@@ -106,3 +106,27 @@ module _ {X : Type 0} where
       let e : n ≡ n - 1 + 1 = omega arith in
       let lt : n - 1 < length m = omega (arith, r.count_inside) in
       ap (λ xs. record { items = xs; places = length m }) (ap (λ i. ringed m h i) e ∙ ringed_first m h (n - 1) at d r.head_inside lt s)
+
+  pub held_row : (m : List X) (h n : ℕ) → Ringed m h n → as_row (held_of m h n) ≡ row_of m h n
+  held_row m h n r = ap (λ p. record { items = ringed m h n; places = p }) (omega (arith, count_ringed m h n r, r.count_inside))
+
+  pub held_put : (m : List X) (h n at : ℕ) (x : X) → Ringed m h n → n < length m → Spot (length m) h n at →
+      as_row (held_of (set m at x) h (n + 1)) ≡ holding (as_row (held_of m h n)) (ringed m h n ++ x ∷ [])
+  held_put m h n at x r lt s =
+      let r' : Ringed (set m at x) h (n + 1) = record { head_inside = omega (arith, length-set m at x, r.head_inside); count_inside = omega (arith, length-set m at x) } in
+      held_row (set m at x) h (n + 1) r' ∙ row_put m h n at x r lt s
+      ∙ ap (λ w. holding w (ringed m h n ++ x ∷ [])) (sym (held_row m h n r))
+
+  pub held_newest : (m : List X) (h n at : ℕ) (d : X) → Ringed m h n → (n ≡ 0 → ⊥) → Spot (length m) h (n - 1) at →
+      as_row (held_of m h n) ≡ holding (as_row (held_of m h (n - 1))) (ringed m h (n - 1) ++ get_or m at d ∷ [])
+  held_newest m h n at d r ne s =
+      let r' : Ringed m h (n - 1) = record { head_inside = r.head_inside; count_inside = omega (arith, r.count_inside) } in
+      held_row m h n r ∙ row_newest m h n at d r ne s
+      ∙ ap (λ w. holding w (ringed m h (n - 1) ++ get_or m at d ∷ [])) (sym (held_row m h (n - 1) r'))
+
+  pub held_oldest : (m : List X) (h n at : ℕ) (d : X) → Ringed m h n → (n ≡ 0 → ⊥) → Spot (length m) h 0 at →
+      as_row (held_of m h n) ≡ holding (as_row (held_of m (at + 1) (n - 1))) (get_or m at d ∷ ringed m (at + 1) (n - 1))
+  held_oldest m h n at d r ne s =
+      let r' : Ringed m (at + 1) (n - 1) = record { head_inside = omega (arith, s.0); count_inside = omega (arith, r.count_inside) } in
+      held_row m h n r ∙ row_oldest m h n at d r ne s
+      ∙ ap (λ w. holding w (get_or m at d ∷ ringed m (at + 1) (n - 1))) (sym (held_row m (at + 1) (n - 1) r'))

@@ -1,6 +1,6 @@
 -- A ring in a list of places.
-use Rattle.std.specs.Prelude.{◌≡◌, ℕ, ◌+◌, ◌<◌, ◌≤◌, ◌⊎◌, List, ◌++◌, take, drop, length}
-use Rattle.strip.specs.Rows.{Row}
+use Rattle.std.specs.Prelude.{◌≡◌, ℕ, ◌+◌, ◌-◌, ◌<◌, ◌≤◌, ◌⊎◌, List, ◌++◌, take, drop, length}
+use Rattle.strip.specs.Rows.{Held, Row}
 
 -- the `count` elements of the memory from `head` on, going round its end
 unfoldable pub ringed : {X : Type 0} → List X → ℕ → ℕ → List X
@@ -17,3 +17,7 @@ pub record Ringed {X : Type 0} (memory : List X) (head count : ℕ) : Type 0 whe
 
 abbrev pub row_of : {X : Type 0} → List X → ℕ → ℕ → Row X
 row_of memory head count = record { items = ringed memory head count; places = length memory }
+
+-- the free places are those of the memory that no element takes
+abbrev pub held_of : {X : Type 0} → List X → ℕ → ℕ → Held X
+held_of memory head count = record { items = ringed memory head count; free = length memory - count }

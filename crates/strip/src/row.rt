@@ -2,8 +2,8 @@
 #![tactic(auto, using(crate::proofs::Rings::ringed_none, crate::proofs::Rings::count_ringed))]
 
 ghost use Rattle.std.specs.Prelude.{◌≡◌, ◌+◌, ◌≤◌, [], length};
-ghost use Rattle.strip.specs.Ring.{Ringed, row_of};
-ghost use Rattle.strip.specs.Rows.{Row};
+ghost use Rattle.strip.specs.Ring.{Ringed, held_of};
+ghost use Rattle.strip.specs.Rows.{Held, as_row};
 
 use std::marker::Model;
 
@@ -18,9 +18,9 @@ pub struct Strip<'a, T: Copy> {
 }
 
 impl<'a, T: Copy> Model for Strip<'a, T> {
-    ghost Value = { Row T };
+    ghost Value = { Held T };
 
-    ghost view = { λ s. row_of s.memory.now s.head s.count };
+    ghost view = { λ s. held_of s.memory.now s.head s.count };
 
     ghost invariant = { λ s. Ringed s.memory.now s.head s.count };
 }
@@ -29,7 +29,7 @@ impl<'a, T: Copy> Strip<'a, T> {
     // An empty strip, with as many places as the memory has.
     pub fn new(memory: &'a mut [T]) -> Strip<'a, T>
         ensures empty { result.items ≡ [] }
-        ensures places { result.places ≡ length memory.old }
+        ensures places { (as_row result).places ≡ length memory.old }
     {
         Strip {
             memory,
@@ -45,14 +45,14 @@ impl<'a, T: Copy> Strip<'a, T> {
     }
 
     pub fn places(&self) -> usize
-        ensures { result ≡ self.now.places }
+        ensures { result ≡ (as_row self.now).places }
     {
         self.memory.len()
     }
 
     // How many places are free: the items never outnumber the places.
     pub fn free(&self) -> usize
-        ensures { result + length self.now.items ≡ self.now.places }
+        ensures { result + length self.now.items ≡ (as_row self.now).places }
     {
         self.places() - self.count
     }

@@ -87,3 +87,17 @@ fn lines_on_one_strip(rt: HostRuntime) {
     tells(&rt, &stack, 4, 3);
     taken(&rt, &mut stack, &[4, 3, 2]);
 }
+
+#[test]
+fn lines_tell_the_free_places(rt: HostRuntime) {
+    let mut memory = [9; 4];
+    let mut row = Strip::new(&mut memory);
+    {
+        let mut queue = Queue::new(&mut row);
+        joined(&rt, &mut queue, &[3]);
+        assert_eq!(rt; queue.free(), 3);
+    }
+    let mut stack = Stack::new(&mut row);
+    joined(&rt, &mut stack, &[4, 5, 6]);
+    assert_eq!(rt; stack.free(), 0);
+}

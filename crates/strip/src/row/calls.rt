@@ -1,9 +1,10 @@
 // Putting, taking and reading.
-#![tactic(auto, using(crate::proofs::Rings::ringed_none, crate::proofs::Rings::count_ringed, crate::proofs::Rings::row_item, crate::proofs::Rings::row_put, crate::proofs::Rings::row_oldest, crate::proofs::Rings::row_newest))]
+#![tactic(auto, using(crate::proofs::Rings::ringed_none, crate::proofs::Rings::count_ringed, crate::proofs::Rings::row_item, crate::proofs::Rings::held_put, crate::proofs::Rings::held_oldest, crate::proofs::Rings::held_newest))]
 
 ghost use Rattle.std.specs.Prelude.{◌<◌, ◌≤◌};
 ghost use Rattle.strip.specs.Calls.{Put, Read, TakeNewest, TakeOldest};
 ghost use Rattle.strip.specs.Ring.{Spot};
+ghost use Rattle.strip.specs.Rows.{as_row};
 
 use crate::row::{Full, Strip};
 
@@ -19,7 +20,7 @@ fn spot(n: usize, head: usize, k: usize) -> usize
 impl<'a, T: Copy> Strip<'a, T> {
     // Puts one more at the new end, where a place is free.
     pub fn put(&mut self, x: T) -> Result<(), Full>
-        ensures { Put self.old x result self.new }
+        ensures { Put (as_row self.old) x result (as_row self.new) }
     {
         if self.count >= self.memory.len() {
             return Err(Full::NoPlace);
@@ -31,7 +32,7 @@ impl<'a, T: Copy> Strip<'a, T> {
     }
 
     pub fn take_oldest(&mut self) -> Option<T>
-        ensures { TakeOldest self.old result self.new }
+        ensures { TakeOldest (as_row self.old) result (as_row self.new) }
     {
         if self.count == 0 {
             return None;
@@ -44,7 +45,7 @@ impl<'a, T: Copy> Strip<'a, T> {
     }
 
     pub fn take_newest(&mut self) -> Option<T>
-        ensures { TakeNewest self.old result self.new }
+        ensures { TakeNewest (as_row self.old) result (as_row self.new) }
     {
         if self.count == 0 {
             return None;
@@ -57,7 +58,7 @@ impl<'a, T: Copy> Strip<'a, T> {
 
     // The item with the number `k`, 0 the oldest; it stays.
     pub fn read(&self, k: usize) -> Option<T>
-        ensures { Read self.now k result }
+        ensures { Read (as_row self.now) k result }
     {
         if k >= self.count {
             return None;
