@@ -1,11 +1,12 @@
 // A board of 64 rows, one for each group that a deck may have.
 ghost use Rattle.board.specs.Calls.{Chosen};
+ghost use Rattle.board.specs.Marked.{contracts_of, list_of};
 ghost use Rattle.deck.specs.Contents.{data_of};
 ghost use Rattle.quota.specs.Caps.{Earlier, given_row, quota, quota_reason, row_at};
 ghost use Rattle.quota.specs.Climb.{Climbed, turned};
 ghost use Rattle.quota.specs.Laws.{quota-lawful, reason-coded};
 ghost use Rattle.quota.specs.Rule.{Rule};
-ghost use Rattle.quota.specs.Walk.{Found, Numbers, Walked};
+ghost use Rattle.quota.specs.Walk.{Numbers, Told, Walked};
 ghost use Rattle.rules.specs.declared.table.Contract.{Contract};
 ghost use Rattle.std.specs.Prelude.{◌≡◌, ℕ, ◌<◌, IsTrue, List, length};
 
@@ -95,13 +96,12 @@ impl Quota {
         stops
     }
 
-    // Finds where each marked contract is stopped, if it is.
-    fn find_stops(&self, deck: &Deck, marks: &[u8]) -> Result<[Option<u8>; 2048], Unfit>
-        ensures { Found self.now.rows (data_of deck.now).contracts marks.now result }
+    // Finds where each contract of a list is stopped, if it is.
+    fn find_stops(&self, list: &Marked) -> [Option<u8>; 2048]
+        ensures { Told self.now.rows (contracts_of list.now) (list_of list.now) result }
     {
-        let list = Marked::of(deck, marks)?;
-        let row = row_by(&list, rules::table::Rule::Rank);
-        Ok(self.walk(deck, &row))
+        let row = row_by(list, rules::table::Rule::Rank);
+        self.walk(list.deck(), &row)
     }
 }
 
@@ -115,7 +115,8 @@ impl Board for Quota {
     ghost irrelevant = { λ b t of-deck. (quota-lawful b.rows b.earlier b.whole t.contracts).irrelevant };
 
     fn choose(&self, deck: &Deck, marks: &mut [u8]) -> Result<(), Unfit> {
-        let stops = self.find_stops(deck, marks)?;
+        let list = Marked::of(deck, marks)?;
+        let stops = self.find_stops(&list);
         keep_only(marks, |k| stops[k].is_none());
         Ok(())
     }
@@ -130,7 +131,8 @@ impl Explain for Quota {
         if !is_listed(deck, marks, k)? {
             return Ok((1, 0));
         }
-        let stops = self.find_stops(deck, marks)?;
+        let list = Marked::of(deck, marks)?;
+        let stops = self.find_stops(&list);
         Ok(stops[usize::from(k)].map_or((0, 0), |v| (2, u16::from(v))))
     }
 }
