@@ -1,5 +1,6 @@
 -- The facts of a deck's entries, carried along its row.
 use Rattle.std.proofs.Common.{◌≡◌, ℕ, Some, None, ◌+◌, ◌-◌, ◌<◌, ◌≤◌, Bool, true, false, cond, eqb, List, [], ◌∷◌, ◌++◌, length, get_or, sym, refl, ap, ◌∙◌, subst, inl, inr, arith, length-append, le-leb}
+use Rattle.std.specs.Result.{IsOk}
 use Rattle.std.proofs.lemmas.List.{get_or_append_left, get_or-append_right, get_or_push}
 use Rattle.std.proofs.lemmas.Bool.{cases_Bool, eqb-false}
 use Rattle.std.proofs.lemmas.Option.{none-some}
@@ -7,6 +8,7 @@ use Rattle.format.specs.declared.record.Record.{Record}
 use Rattle.format.specs.declared.record.Record.TheVariants as R
 use Rattle.format.specs.Layout.{encode, Formed}
 use Rattle.rules.specs.declared.table.Group.{Group}
+use Rattle.rules.specs.declared.table.Seat.{Seat}
 use Rattle.rules.specs.declared.table.Reservation.{Reservation}
 use Rattle.rules.specs.declared.table.Trainee.{Trainee}
 use Rattle.rules.specs.declared.table.Contract.{Contract}
@@ -29,6 +31,10 @@ pub record GroupOk (all : List ℕ) (gs : List Group) (k : ℕ) (a : Group) : Ty
   pub topped : IsDredger gs a.dredger
   pub named : NameAt all a.name
 
+pub record SeatOk (gs : List Group) (a : Seat) : Type 0 where
+  pub given : IsDredger gs a.dredger
+  pub rule : IsOk a.rule
+
 pub record ContractOk (gs : List Group) (ts : List Trainee) (a : Contract) : Type 0 where
   pub trainee : a.trainee < length ts
   pub lot : a.lot ≡ (trainee_at ts a.trainee).lot
@@ -43,7 +49,7 @@ pub record BarOk (gs : List Group) (ts : List Trainee) (a : Barring) : Type 0 wh
 
 pub record Sound (all : List ℕ) (t : Content) : Type 0 where
   pub groups : (k : ℕ) → k < length t.groups → GroupOk all t.groups k (group_at t.groups k)
-  pub seats : (k : ℕ) → k < length t.seats → IsDredger t.groups (seat_at t.seats k).dredger
+  pub seats : (k : ℕ) → k < length t.seats → SeatOk t.groups (seat_at t.seats k)
   pub reserves : (k : ℕ) → k < length t.reserves → IsDredger t.groups (reserve_at t.reserves k).dredger
   pub reserves_apart : ReservesApart t.reserves
   pub trainees : (k : ℕ) → k < length t.trainees → NameAt all (trainee_at t.trainees k).name
@@ -181,7 +187,7 @@ sound_more b t (R.Group p c n) f u o s0 =
     let m : NameAt all (length b + 4) = name_at_lem b (71 ∷ p ∷ _ ∷ _ ∷ []) n refl f u.range.1 in
     record {
       groups = each_push _ t.groups g (λ k a. GroupOk all (t.groups ++ (g ∷ [])) k a) (λ k lt. group_wider all t.groups g k _ (omega arith) (s.groups k lt)) (new_group all t p c (length b) u.range.0 m s);
-      seats = λ k lt. dredger_wider t.groups g _ (s.seats k lt);
+      seats = λ k lt. record { given = dredger_wider t.groups g _ (s.seats k lt).given; rule = (s.seats k lt).rule };
       reserves = λ k lt. dredger_wider t.groups g _ (s.reserves k lt);
       contracts = λ k lt. contract_groups t.groups t.trainees g _ (s.contracts k lt);
       bars = λ k lt. record { trainee = (s.bars k lt).trainee; given = dredger_wider t.groups g _ (s.bars k lt).given };
@@ -195,7 +201,7 @@ sound_more b t (R.Group p c n) f u o s0 =
 sound_more b t (R.Seat d q) f u o s0 =
     let s = wider b (encode (R.Seat d q)) t s0 in
     record {
-      seats = each_push _ t.seats _ (λ k a. IsDredger t.groups a.dredger) s.seats u.range.0;
+      seats = each_push _ t.seats _ (λ k a. SeatOk t.groups a) s.seats (record { given = u.range.0; rule = refl });
       groups = s.groups;
       reserves = s.reserves;
       reserves_apart = s.reserves_apart;

@@ -1,5 +1,5 @@
 -- What holds of the entries of every deck, for whoever reads one.
-use Rattle.std.specs.Prelude.{◌≡◌, ℕ, ◌+◌, ◌<◌, ◌≤◌, Bool, true, ◌&&◌, List, length, Some, None, ◌≢◌, nat_le, slice_index}
+use Rattle.std.specs.Prelude.{◌≡◌, ℕ, ◌+◌, ◌<◌, ◌≤◌, Bool, true, ◌&&◌, List, length, Some, None, IsOk, ◌≢◌, nat_le, slice_index}
 use Rattle.rules.specs.declared.table.Group.{Group}
 use Rattle.rules.specs.declared.table.Seat.{Seat}
 use Rattle.rules.specs.declared.table.Reservation.{Reservation}
@@ -40,9 +40,12 @@ GroupNames all gs = (g : ℕ) → g < length gs → (group_at gs g).name + 8 ≤
 abbrev pub GroupsPrinted : List ℕ → List Group → Type 0
 GroupsPrinted all gs = (g i : ℕ) → (g < length gs) × (i < 8) → printed (slice_index all ((group_at gs g).name + i)) ≡ true
 
--- a seat is at a given dredger
+-- a seat is at a given dredger, and has one of the three rules
 abbrev pub SeatsGiven : List Group → List Seat → Type 0
 SeatsGiven gs ss = (k : ℕ) → k < length ss → IsDredger gs (seat_at ss k).dredger
+
+abbrev pub SeatRules : List Seat → Type 0
+SeatRules ss = (k : ℕ) → k < length ss → IsOk (seat_at ss k).rule
 
 -- a reserve is at a given dredger, which has no other
 abbrev pub ReservesGiven : List Group → List Reservation → Type 0

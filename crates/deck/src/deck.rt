@@ -1,7 +1,7 @@
 // A deck: the bytes and the entries that intake gave, for reading.
 ghost use Rattle.std.specs.Prelude.{◌≤◌, length};
 ghost use Rattle.deck.specs.Facts.{BarTrainees, BarsApart, BarsGiven, DredgersCarried, Earlier, FlagsCarried, GroupNames, GroupsGiven, GroupsPrinted};
-ghost use Rattle.deck.specs.Facts.{Inherited, LotsApart, LotsCarried, Own, ReservesApart, ReservesGiven, Rising, SeatsGiven, Terms, Topped};
+ghost use Rattle.deck.specs.Facts.{Inherited, LotsApart, LotsCarried, Own, ReservesApart, ReservesGiven, Rising, SeatRules, SeatsGiven, Terms, Topped};
 ghost use Rattle.deck.specs.Facts.{TraineeNames, TraineesGiven, TraineesPrinted, WishesApart};
 ghost use Rattle.deck.specs.Lawful.{Deals};
 ghost use Rattle.rules.specs.Contents.{content_of};
@@ -28,6 +28,7 @@ pub struct Deck<'a> {
     ghost group_names: { GroupNames bytes.now tables.groups.now },
     ghost groups_printed: { GroupsPrinted bytes.now tables.groups.now },
     ghost seats_given: { SeatsGiven tables.groups.now tables.seats.now },
+    ghost seat_rules: { SeatRules tables.seats.now },
     ghost reserves_given: { ReservesGiven tables.groups.now tables.reserves.now },
     ghost reserves_apart: { ReservesApart tables.reserves.now },
     ghost trainee_names: { TraineeNames bytes.now tables.trainees.now },

@@ -1,5 +1,5 @@
 -- A deck as a row of records, each judged by those before it, and the entries that they fill.
-use Rattle.std.specs.Prelude.{◌≡◌, ℕ, ◌+◌, ◌<◌, cond, List, [], ◌∷◌, ◌++◌, length, ◌==◌}
+use Rattle.std.specs.Prelude.{◌≡◌, ℕ, ◌+◌, ◌<◌, cond, List, [], ◌∷◌, ◌++◌, length, Ok, ◌==◌}
 use Rattle.format.specs.declared.reader.Reader.{Reader}
 use Rattle.format.specs.declared.record.Record.{Record}
 use Rattle.format.specs.declared.record.Record.TheVariants as R
@@ -38,7 +38,7 @@ entry_of_wish t g p m = record {
 -- the entry of a record at a place, after those with these entries
 abbrev pub entry_of : Content → ℕ → Record → Entry
 entry_of t place (R.Group p c n) = E.Group (entry_of_group t place p c)
-entry_of t place (R.Seat d r) = E.Seat (record { dredger = d; rule = rule_of r })
+entry_of t place (R.Seat d r) = E.Seat (record { dredger = d; rule = Ok (rule_of r) })
 entry_of t place (R.Reserve d s) = E.Reserve (record { dredger = d; seats = s })
 entry_of t place (R.Trainee l f n) = E.Trainee (record { lot = l; flag = (f == 1); name = place + 4 })
 entry_of t place (R.Wish g p m) = E.Contract (entry_of_wish t g p m)

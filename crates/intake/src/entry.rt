@@ -79,7 +79,7 @@ pub(crate) fn entry_of(rec: Record, place: usize, past: Tables) -> Entry
         } => Entry::Group(group_entry(past, place, parent, capacity)),
         Record::Seat { dredger, rule } => Entry::Seat(Seat {
             dredger,
-            rule: Rule::try_from(rule).unwrap(),
+            rule: Rule::try_from(rule),
         }),
         Record::Reserve { dredger, seats } => Entry::Reserve(Reservation { dredger, seats }),
         Record::Trainee { lot, flag, .. } => Entry::Trainee(Trainee {

@@ -1,5 +1,6 @@
 -- What six tables hold, without the memory that holds it.
-use Rattle.std.specs.Prelude.{◌≡◌, ℕ, ◌<◌, ◌≤◌, false, zero, suc, List, [], Some, None, Option, Result, MatchResult, slice_index_or, if◌then◌else◌, ◌==◌}
+use Rattle.std.specs.Prelude.{◌≡◌, ℕ, ◌<◌, ◌≤◌, false, zero, suc, List, [], Some, None, Option, Result, Ok, MatchResult, slice_index_or, if◌then◌else◌, ◌==◌}
+use Rattle.std.specs.Result.{result_unwrap_or}
 use Rattle.rules.specs.declared.table.Group.{Group}
 use Rattle.rules.specs.declared.table.Rule.{Rule}
 use Rattle.rules.specs.declared.table.Rule.TheVariants.{Rank, Lot, Term}
@@ -42,6 +43,10 @@ rule_of zero = Rank
 rule_of (suc zero) = Lot
 rule_of (suc (suc b)) = Term
 
+-- a number's rule, and by rank where it stands for none
+abbrev pub rule_or_rank : ℕ → Rule
+rule_or_rank n = if n == 1 then Lot else (if n == 2 then Term else Rank)
+
 -- a byte of at most 2 gives its rule, and any other is handed back
 abbrev pub RuleGiven : ℕ → Result Rule UnknownRule → Type 0
 RuleGiven b r = MatchResult r (λ rule. (b ≤ 2) × (rule ≡ rule_of b)) (λ e. (2 < b) × (e.0 ≡ b))
@@ -51,7 +56,11 @@ abbrev pub zero_group : Group
 zero_group = record { parent = None; capacity = 0; name = 0; dredger = 0 }
 
 abbrev pub zero_seat : Seat
-zero_seat = record { dredger = 0; rule = Rank }
+zero_seat = record { dredger = 0; rule = Ok Rank }
+
+-- the rule that a seat goes by: its own, and by rank where its byte stands for none
+abbrev pub rule_by : Seat → Rule
+rule_by s = result_unwrap_or s.rule Rank
 
 abbrev pub zero_reservation : Reservation
 zero_reservation = record { dredger = 0; seats = 0 }

@@ -62,10 +62,25 @@ impl TryFrom<u8> for Rule {
     }
 }
 
-#[derive(Clone, Copy, PartialEq, Eq, Debug, Default)]
+// The rule is what `Rule::try_from` gives of a byte: a table that is lent may have any byte there.
+#[derive(Clone, Copy, PartialEq, Eq, Debug)]
 pub struct Seat {
     pub dredger: u8,
-    pub rule: Rule,
+    pub rule: Result<Rule, UnknownRule>,
+}
+
+// Written out: Rust gives no Default to a Result.
+impl Default for Seat {
+    ghost use Rattle.rules.specs.Contents.{zero_seat};
+
+    ghost is_default = { λ seat. seat ≡ zero_seat };
+
+    fn default() -> Seat {
+        Seat {
+            dredger: 0,
+            rule: Ok(Rule::default()),
+        }
+    }
 }
 
 #[derive(Clone, Copy, PartialEq, Eq, Debug, Default)]

@@ -5,7 +5,7 @@ use Rattle.std.proofs.lemmas.Bool.{cases_eq, cases_lt, both_ways, eq-eqb}
 use Rattle.rules.specs.declared.table.Contract.{Contract}
 use Rattle.rules.specs.declared.table.Rule.{Rule}
 use Rattle.rules.specs.declared.table.Seat.{Seat}
-use Rattle.rules.specs.Contents.{contract_at}
+use Rattle.rules.specs.Contents.{contract_at, rule_by}
 use Rattle.deck.specs.Contents.{data_of}
 use Rattle.board.specs.declared.marked.Marked.{Marked}
 use Rattle.board.specs.Marked.{contracts_of, deck_of, list_of}
@@ -31,23 +31,23 @@ ready_less rule rest more l e p h = record {
       (points_less (contracts_of more) (list_of more) (list_of rest) l.numbers.items (length l.numbers.items) l.next p h.points);
 }
 
-module _ (s : Seat) (cs : List Contract) (R : Set) (row : List ℕ) (holds : Holds s.rule cs R row) where
+module _ (s : Seat) (cs : List Contract) (R : Set) (row : List ℕ) (holds : Holds (rule_by s) cs R row) where
   -- the contract at the first place is the best one left
   first_best : (p : ℕ) → Within (length cs) R → IsFirst cs R row s.dredger (Some p) → Is (length cs) (takes s cs R) (Some (nth row p))
   first_best p w first = (holds.known p first.0, best_only s cs R w (nth row p) best)
     where
       after : (i : ℕ) → i < length row → (contract_at cs (nth row i)).dredger ≡ s.dredger → R (nth row i) ≡ true → (nth row i ≡ nth row p → ⊥)
-          → before cs s.rule (nth row p) (nth row i) ≡ true
+          → before cs (rule_by s) (nth row p) (nth row i) ≡ true
       after i b e r ne = ⊎_elim
           (λ q. absurd (both_ways _ (first.2 i q e) r))
           (λ q. ⊎_elim (λ z. absurd (ne (ap (nth row) (sym z))))
-          (λ z. let y : p < i = omega arith in precedes_by_rule s.rule cs (nth row p) (nth row i) (holds.sorted p i y b) (eq-eqb _ _ (first.1 ∙ sym e))) (cases_eq p i))
+          (λ z. let y : p < i = omega arith in precedes_by_rule (rule_by s) cs (nth row p) (nth row i) (holds.sorted p i y b) (eq-eqb _ _ (first.1 ∙ sym e))) (cases_eq p i))
           (cases_lt i p)
 
-      others : (j : ℕ) → R j ≡ true → (contract_at cs j).dredger ≡ s.dredger → (j ≡ nth row p → ⊥) → before cs s.rule (nth row p) j ≡ true
+      others : (j : ℕ) → R j ≡ true → (contract_at cs j).dredger ≡ s.dredger → (j ≡ nth row p → ⊥) → before cs (rule_by s) (nth row p) j ≡ true
       others j r e ne =
           let a = holds.all j r in
-          let P : ℕ → Type 0 = λ k. (contract_at cs k).dredger ≡ s.dredger → R k ≡ true → (k ≡ nth row p → ⊥) → before cs s.rule (nth row p) k ≡ true in
+          let P : ℕ → Type 0 = λ k. (contract_at cs k).dredger ≡ s.dredger → R k ≡ true → (k ≡ nth row p → ⊥) → before cs (rule_by s) (nth row p) k ≡ true in
           subst P a.2 (after a.0 a.1) e r ne
 
       best : Best s cs R (nth row p)

@@ -2,7 +2,7 @@
 use Rattle.std.specs.Prelude.{◌≡◌, ℕ, true, List, All, length, ◌≢◌}
 use Rattle.rules.specs.declared.table.Contract.{Contract}
 use Rattle.rules.specs.declared.table.Seat.{Seat}
-use Rattle.rules.specs.Contents.{contract_at}
+use Rattle.rules.specs.Contents.{contract_at, rule_by}
 use Rattle.matching.specs.Sets.{Set, Within}
 use Rattle.seats.specs.Taking.{before, takes}
 
@@ -10,7 +10,7 @@ use Rattle.seats.specs.Taking.{before, takes}
 pub record Best (s : Seat) (cs : List Contract) (X : Set) (k : ℕ) : Type 0 where
   pub listed : X k ≡ true
   pub there : (contract_at cs k).dredger ≡ s.dredger
-  pub others : (j : ℕ) → X j ≡ true → (contract_at cs j).dredger ≡ s.dredger → (j ≢ k) → before cs s.rule k j ≡ true
+  pub others : (j : ℕ) → X j ≡ true → (contract_at cs j).dredger ≡ s.dredger → (j ≢ k) → before cs (rule_by s) k j ≡ true
 
 -- a seat takes the best contract of every list, and nothing else
 pub record Follows (s : Seat) : Type 0 where

@@ -4,7 +4,7 @@ use Rattle.std.proofs.lemmas.Bool.{false≢true}
 use Rattle.rules.specs.declared.table.Contract.{Contract}
 use Rattle.rules.specs.declared.table.Rule.{Rule}
 use Rattle.rules.specs.declared.table.Seat.{Seat}
-use Rattle.rules.specs.Contents.{contract_at}
+use Rattle.rules.specs.Contents.{contract_at, rule_by}
 use Rattle.matching.specs.Choices.{Lawful, Strict}
 use Rattle.matching.proofs.Firsts.{first-lawful}
 use Rattle.matching.proofs.Made.{over-lawful}
@@ -19,7 +19,7 @@ rule_strict cs rule = record {
 }
 
 pub takes-lawful : (s : Seat) (cs : List Contract) → Lawful (length cs) (takes s cs)
-takes-lawful s cs = first-lawful (length cs) (at cs s.dredger) (before cs s.rule) (λ k. 1) (rule_strict cs s.rule)
+takes-lawful s cs = first-lawful (length cs) (at cs s.dredger) (before cs (rule_by s)) (λ k. 1) (rule_strict cs (rule_by s))
 
 pub seated-lawful : (ss : List Seat) (cs : List Contract) → Lawful (length cs) (seated ss cs)
 seated-lawful [] cs = record {

@@ -3,7 +3,7 @@ use Rattle.std.specs.Prelude.{ℕ, Bool, List, [], ◌∷◌, length, ◌==◌}
 use Rattle.rules.specs.declared.table.Contract.{Contract}
 use Rattle.rules.specs.declared.table.Rule.{Rule}
 use Rattle.rules.specs.declared.table.Seat.{Seat}
-use Rattle.rules.specs.Contents.{contract_at}
+use Rattle.rules.specs.Contents.{contract_at, rule_by}
 use Rattle.matching.specs.Sets.{Set, none}
 use Rattle.matching.specs.Choices.{Choice, over, first}
 use Rattle.ranking.specs.Rank.{prefers}
@@ -22,7 +22,7 @@ first_at dredger rule cs = first (length cs) (at cs dredger) (before cs rule) (�
 
 -- a seat takes the first contract at its dredger, by its rule
 abbrev pub takes : Seat → List Contract → Choice
-takes s cs = first_at s.dredger s.rule cs
+takes s cs = first_at s.dredger (rule_by s) cs
 
 -- in list order each seat takes of what is left
 abbrev pub seated : List Seat → List Contract → Choice

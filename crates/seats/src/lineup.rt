@@ -1,5 +1,6 @@
 // The contracts of a list, lined up by a rule.
 ghost use Rattle.std.specs.Prelude.{◌≡◌, length, true};
+ghost use Rattle.rules.specs.Contents.{rule_by};
 ghost use Rattle.seats.specs.Rows.{Points, Rises};
 
 use arrayvec::ArrayVec;
@@ -62,9 +63,9 @@ impl Lineup {
 
     // The best contract left at the seat's dredger.
     pub(crate) fn best(&mut self, rest: &Marked, seat: &Seat) -> Option<u16>
-        requires { Ready seat.now.rule rest.now self.old }
+        requires { Ready (rule_by seat.now) rest.now self.old }
         ensures best { Takes seat.now rest.now result }
-        ensures ready { Ready seat.now.rule rest.now self.new }
+        ensures ready { Ready (rule_by seat.now) rest.now self.new }
     {
         let place = usize::from(seat.dredger);
         let from = self.next[place]?;

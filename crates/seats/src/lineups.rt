@@ -1,4 +1,5 @@
 // The lineups of the three rules.
+ghost use Rattle.rules.specs.Contents.{rule_by};
 ghost use Rattle.seats.specs.Lineups.{Stands};
 ghost use Rattle.seats.specs.Ready.{Takes};
 
@@ -17,13 +18,16 @@ pub(crate) struct Lineups {
 // The best contract left for a seat, in the lineup of its rule. `get_or_insert_with` ensures of a new lineup what its closure does; tried, also with a clause
 // on the closure, the check tells nothing of the lineup at that call, and finds no proof.
 fn best_of(lineup: &mut Option<Lineup>, rest: &Marked, seat: &Seat) -> Option<u16>
-    requires { Stands seat.now.rule rest.now lineup.old }
+    requires { Stands (rule_by seat.now) rest.now lineup.old }
     ensures best { Takes seat.now rest.now result }
-    ensures stands { Stands seat.now.rule rest.now lineup.new }
+    ensures stands { Stands (rule_by seat.now) rest.now lineup.new }
 {
     match lineup {
         Some(made) => made.best(rest, seat),
-        None => lineup.insert(Lineup::of(rest, seat.rule)).best(rest, seat),
+        None => {
+            let rule = seat.rule.unwrap_or_default();
+            lineup.insert(Lineup::of(rest, rule)).best(rest, seat)
+        }
     }
 }
 
@@ -36,7 +40,7 @@ impl Lineups {
         ensures best { Takes seat.now rest.now result }
         ensures prepared { Prepared rest.now self.new }
     {
-        match seat.rule {
+        match seat.rule.unwrap_or_default() {
             Rule::Rank => best_of(&mut self.rank, rest, seat),
             Rule::Lot => best_of(&mut self.lot, rest, seat),
             Rule::Term => best_of(&mut self.term, rest, seat),

@@ -87,6 +87,18 @@ fn changed_entries_are_not_bound(rt: HostRuntime) -> Result<(), Fail> {
     Ok(())
 }
 
+// A seat's byte may stand for no rule. Seats 0 and 2 are Q's, 3 and 255 are blank.
+#[test]
+fn seats_without_a_rule_are_not_bound(rt: HostRuntime) -> Result<(), Fail> {
+    let own = filled(&rt, LEAST, P)?;
+    for at in [0, 2, 3, 255] {
+        let mut marked = filled(&rt, LEAST, Q)?;
+        marked.unrule(at);
+        check_tables(&rt, format_args!("seat {at}"), &own, &marked);
+    }
+    Ok(())
+}
+
 // Q's counts are 4, 3, 2, 3, 3, 3.
 const OTHER_COUNTS: [[usize; 6]; 13] = [
     [3, 3, 2, 3, 3, 3],

@@ -115,3 +115,18 @@ fn accepted_decks_fill(rt: HostRuntime) -> Result<(), Fail> {
     check_filled(&rt, "least sizes", LEAST)?;
     check_filled(&rt, "longer tables", LONGER)
 }
+
+// A lent seat may have a byte that stands for no rule. It is blanked with the rest, whether the deck is refused or taken.
+#[test]
+fn seats_without_a_rule_are_blanked(rt: HostRuntime) -> Result<(), Fail> {
+    let mut tables = HeapTables::old(rt.alloc(), LEAST)?;
+    tables.unrule(0);
+    tables.unrule(255);
+    assert_eq!(rt; tables.take(b""), Err(refusal(3, 0)));
+    assert!(rt; hold(tables.tables(), NO_ENTRIES), "refused");
+    tables.unrule(0);
+    tables.unrule(255);
+    assert_eq!(rt; tables.take(Q.bytes), Ok(Q.counts));
+    assert!(rt; hold(tables.tables(), Q.tables), "taken");
+    Ok(())
+}

@@ -154,7 +154,7 @@ fn check_lasts(rt: &impl Abort, tables: &HeapTables) {
     assert_eq!(rt; tables.groups.last().copied(), Some(group));
     let seat = Seat {
         dredger: 63,
-        rule: Rule::Rank,
+        rule: Ok(Rule::Rank),
     };
     assert_eq!(rt; tables.seats.last().copied(), Some(seat));
     let reserve = Reservation {

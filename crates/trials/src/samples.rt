@@ -233,15 +233,15 @@ pub const Q: Sample<'static> = Sample {
         seats: &[
             Seat {
                 dredger: 0,
-                rule: Rule::Lot,
+                rule: Ok(Rule::Lot),
             },
             Seat {
                 dredger: 2,
-                rule: Rule::Rank,
+                rule: Ok(Rule::Rank),
             },
             Seat {
                 dredger: 0,
-                rule: Rule::Term,
+                rule: Ok(Rule::Term),
             },
         ],
         reserves: &[

@@ -3,7 +3,9 @@ use format::fault::Refusal;
 use intake::counts::Counts;
 use intake::intake::intake;
 use intake::tables::TablesMut;
-use rules::table::{Barring, Contract, Group, Reservation, Rule, Seat, Tables, Trainee};
+use rules::table::{
+    Barring, Contract, Group, Reservation, Rule, Seat, Tables, Trainee, UnknownRule,
+};
 use std::alloc::{AllocError, Global};
 
 // The least sizes that intake takes.
@@ -35,7 +37,7 @@ const OLD_GROUP: Group = Group {
 
 const OLD_SEAT: Seat = Seat {
     dredger: 7,
-    rule: Rule::Term,
+    rule: Ok(Rule::Term),
 };
 
 const OLD_RESERVATION: Reservation = Reservation {
@@ -165,6 +167,13 @@ impl HeapTables {
             trainees: &self.trainees,
             contracts: &self.contracts,
             bars: &self.bars,
+        }
+    }
+
+    // Puts the byte 9, which stands for no rule, at a seat.
+    pub fn unrule(&mut self, at: usize) {
+        if let Some(seat) = self.seats.get_mut(at) {
+            seat.rule = Err(UnknownRule(9));
         }
     }
 
