@@ -1,5 +1,5 @@
 -- In which order a dredger's contracts come: by rank, and by the two other rules that a seat may have.
-use Rattle.std.specs.Prelude.{◌≡◌, ℕ, Bool, true, false, ◌&&◌, ◌||◌, List, ◌==◌, ◌≢◌, if◌then◌else◌, nat_lt}
+use Rattle.std.specs.Prelude.{◌≡◌, ℕ, Bool, true, false, ◌&&◌, ◌||◌, List, ◌==◌, ◌≢◌, nat_lt}
 use Rattle.rules.specs.declared.table.Contract.{Contract}
 use Rattle.rules.specs.declared.table.Rule.{Rule}
 use Rattle.rules.specs.declared.table.Rule.TheVariants.{Rank, Lot, Term}
@@ -32,10 +32,6 @@ abbrev pub prefers : Rule → Contract → Contract → ℕ → ℕ → Bool
 prefers Rank = better
 prefers Lot = lower_lot
 prefers Term = lower_term
-
--- the rule of a number, as a deck gives it; any other number means by rank
-abbrev pub rule_or_rank : ℕ → Rule
-rule_or_rank n = if n == 1 then Lot else (if n == 2 then Term else Rank)
 
 -- what every rule is: a strict order in which any two contracts compare
 pub record Orders (before : Contract → Contract → ℕ → ℕ → Bool) : Type 0 where

@@ -4,8 +4,8 @@ ghost use Rattle.board.specs.Marked.{contracts_of, list_of};
 ghost use Rattle.board.specs.Marks.{member};
 ghost use Rattle.deck.specs.Contents.{data_of};
 ghost use Rattle.ranking.specs.Keys.{Placed, numbers};
-ghost use Rattle.ranking.specs.Rank.{rule_or_rank};
 ghost use Rattle.ranking.specs.Rows.{InRow, Lined};
+ghost use Rattle.rules.specs.Contents.{rule_or_rank};
 
 use crate::key::{Key, key_of};
 use arrayvec::ArrayVec;
