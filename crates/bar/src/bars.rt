@@ -10,10 +10,13 @@ use deck::deck::Deck;
 use rules::table::{Barring, Contract};
 
 // Each trainee has a span that holds all of their pairs, so that a contract is compared with those of its trainee alone.
+// Laws take a board as a value, of which only its fields' lists are known: how many pairs and spans there are is therefore an invariant.
 #[derive(Drop)]
 pub struct Bars {
     pairs: ArrayVec<Barring, 128>,
     spans: [Span; 256],
+    ghost few: { length pairs.items ≤ 128 },
+    ghost wide: { length spans ≡ 256 },
     ghost spanned: { Spans spans pairs.items (length pairs.items) },
 }
 

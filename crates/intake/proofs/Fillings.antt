@@ -1,6 +1,5 @@
 -- Tables that hold entries: one more, their first entries, and blank tables.
 use Rattle.std.proofs.Common.{◌≡◌, ℕ, suc, ◌+◌, ◌-◌, ◌<◌, List, [], ◌∷◌, ◌++◌, length, take, set, replicate, sym, refl, ap, ◌∙◌, subst, append_assoc, arith, length-append, length-set}
-use Rattle.std.proofs.lemmas.List.{length-replicate}
 use lib.Seq.{set_at, take-append_seam}
 use Rattle.rules.specs.Contents.{Content}
 use Rattle.intake.specs.declared.counts.Counts.{Counts}
@@ -67,16 +66,6 @@ same_then t u v h k = record {
   bars = k.bars ∙ h.bars;
 }
 
-pub same_blanks : (t u : Content) → u ≡ blanks t → SameLengths t u
-same_blanks t u e = subst (SameLengths t) (sym e) (record {
-  groups = length-replicate (length t.groups) _;
-  seats = length-replicate (length t.seats) _;
-  reserves = length-replicate (length t.reserves) _;
-  trainees = length-replicate (length t.trainees) _;
-  contracts = length-replicate (length t.contracts) _;
-  bars = length-replicate (length t.bars) _;
-})
-
 set_same : (c : Counts) (t : Content) (e : Entry) → SameLengths t (written c t e)
 set_same c t (E.Group x) = record { groups = length-set t.groups _ x; seats = refl; reserves = refl; trainees = refl; contracts = refl; bars = refl }
 set_same c t (E.Seat x) = record { groups = refl; seats = length-set t.seats _ x; reserves = refl; trainees = refl; contracts = refl; bars = refl }
@@ -99,7 +88,8 @@ roomy_same t u h r = record {
   bars = omega (arith, h.bars, r.bars);
 }
 
-blanks_same : (t u : Content) → SameLengths t u → blanks u ≡ blanks t
+-- blank tables of the same lengths are the same
+pub blanks_same : (t u : Content) → SameLengths t u → blanks u ≡ blanks t
 blanks_same t u h =
     let a = h.groups in
     let b = h.seats in
@@ -108,7 +98,3 @@ blanks_same t u h =
     let e = h.contracts in
     let f = h.bars in
     cc
-
--- tables that were blanked, filled and blanked once more
-pub blanked_again : (t u v w : Content) → u ≡ blanks t → SameLengths u v → w ≡ blanks v → w ≡ blanks t
-blanked_again t u v w e h k = k ∙ blanks_same t v (same_then t u v (same_blanks t u e) h)

@@ -9,6 +9,7 @@ use crate::fill::fill;
 use crate::tables::TablesMut;
 
 // Fills the tables of a deck and answers their counts.
+#[tactic(auto, using(crate::proofs::Verdicts::judging))]
 pub fn intake(bytes: &[u8], tables: &mut TablesMut) -> Result<Counts, DeckFault>
     ensures same { SameTables tables.old tables.new }
     ensures lengths { SameLengths (content_of_lent tables.old) (content_of_lent tables.new) }

@@ -11,9 +11,11 @@ use ranking::row::row_by;
 use rules::table::{Contract, Reservation, Rule};
 
 // A place for each dredger that a deck may have. Entries hold plain numbers, and that a dredger's is below 64 is known of a deck's alone.
+// Laws take a board as a value, of which only its fields' lists are known: that the places are 64 is therefore an invariant.
 #[derive(Drop)]
 pub struct Reserves {
     places: [u16; 64],
+    ghost whole: { length places ≡ 64 },
 }
 
 // The places of each dredger, 0 where none are given.

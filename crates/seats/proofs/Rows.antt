@@ -106,6 +106,16 @@ tail_at row ys from m i e f l h = (inside, read)
     read : get_or (take (length ys - m) (drop m ys)) i 0 ≡ nth row (from + i)
     read = get_or-take (length ys - m) (drop m ys) i 0 short ∙ get_or-drop m ys i 0 ∙ ap (λ n. get_or ys (n + i) 0) f ∙ ap (λ xs. get_or xs (from + i) 0) e
 
+-- no contract of R at the dredger is left before place from + i
+pub record Searched (cs : List Contract) (R : Set) (row : List ℕ) (g from i : ℕ) : Type 0 where
+  pub passed : Passed cs R row (from + i) g
+
+pub searched_more : (cs : List Contract) (R : Set) (row : List ℕ) (g from i : ℕ) → R (nth row (from + i)) ≡ false → Searched cs R row g from i → Searched cs R row g from (i + 1)
+searched_more cs R row g from i r h = record { passed = passed_more cs R row (from + i) (from + (i + 1)) g (omega arith) h.passed r }
+
+-- with what a place further on reads
+pub ruleset searching = (searched_more, get_or-take, get_or-drop, length-take, length-drop)
+
 -- the same of a row that was read
 pub rises_from : (rule : Rule) (cs ds : List Contract) (R : Set) (row ys : List ℕ) → ds ≡ cs → ys ≡ row → Holds rule cs R row → Rises ds ys
 rises_from rule cs ds R row ys d e h = subst (λ xs. Rises xs ys) (sym d) (subst (Rises cs) (sym e) (holds_rises rule cs R row h))

@@ -44,6 +44,7 @@ impl Lineup {
     }
 
     // The first place from here on with a contract left at the dredger.
+    #[tactic(auto, using(crate::proofs::Rows::searching))]
     fn find(&self, rest: &Marked, dredger: u8, from: u16) -> Option<u16>
         requires rises { Rises (contracts_of rest.now) self.now.numbers.items }
         requires may_begin { MayBegin rest.now self.now dredger (Some from) }

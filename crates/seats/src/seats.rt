@@ -1,5 +1,5 @@
 // The seats of a board, and seating.
-ghost use Rattle.std.specs.Prelude.{◌≡◌, IsTrue};
+ghost use Rattle.std.specs.Prelude.{◌≡◌, ◌≤◌, IsTrue, length};
 ghost use Rattle.deck.specs.Contents.{data_of};
 ghost use Rattle.seats.specs.Best.{AllFollow};
 
@@ -10,10 +10,11 @@ use board::unfit::Unfit;
 use deck::deck::Deck;
 use rules::table::Seat;
 
-// The seats, in list order.
+// The seats, in list order. A law takes a board as a value, of which only its fields' lists are known: that its seats are few is therefore an invariant.
 #[derive(Drop)]
 pub struct Seats {
     seats: ArrayVec<Seat, 256>,
+    ghost few: { length seats.items ≤ 256 },
 }
 
 impl Seats {
