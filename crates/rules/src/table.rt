@@ -16,7 +16,7 @@ pub const MOST_CONTRACTS: usize = 2048;
 pub const MOST_BARS: usize = 128;
 
 // The parent byte of a group without parent: a dredger.
-const NO_PARENT: u8 = 255;
+pub const NO_PARENT: u8 = 255;
 
 // The parent that a byte gives.
 pub fn parent_of(byte: u8) -> Option<u8>
