@@ -74,7 +74,8 @@ fn is_fresh(rec: Record, past: Tables) -> bool
         Record::Trainee { lot, .. } => past.trainees.iter().all(|e| e.lot != lot),
         Record::Wish { group, .. } => {
             let dredger = past.groups[usize::from(group)].dredger;
-            !past.contracts.iter().any(|e| usize::from(e.trainee) == trainee && e.dredger == dredger)
+            !past.contracts.iter().any(|e| usize::from(e.trainee) == trainee
+                && e.dredger == dredger)
         }
         Record::Bar { dredger } => past.bars.iter().all(|e| usize::from(e.trainee) != trainee
             || e.dredger != dredger),
