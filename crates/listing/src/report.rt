@@ -17,7 +17,7 @@ use intake::fault::DeckFault;
 use rules::table::{Contract, Tables};
 use std::alloc::{AllocError, Global};
 
-// How many contracts are of this trainee. `filter(..).count()` would say the same, and takes twice as long.
+// How many contracts are of this trainee. `filter(..).count()` would say the same in twice the instructions.
 #[tactic(auto, using(crate::proofs::Wishes::wish_more, crate::proofs::Wishes::wish_other, crate::proofs::Wishes::wish_all))]
 fn wish_count(contracts: &[Contract], trainee: usize) -> usize
     ensures { result ≡ wishes trainee contracts.now }
